@@ -1,0 +1,20 @@
+pub mod Parts
+pub mod Folds
+pub mod Compactions
+pub mod Marked
+pub mod Whole
+pub mod Partial
+pub mod Kept
+pub mod InFront
+pub mod StoreTimes
+pub mod Storable
+pub mod LetIn
+pub mod FileLists
+pub mod StoreSums
+pub mod Jobs
+pub mod JobsStay
+pub mod Standing
+pub mod StandingJobs
+pub mod StandingSteps
+mod NeededAcceptance
+mod NeededPremises

@@ -1,0 +1,133 @@
+-- The laws of compactions, over all columns.
+use Rattle.std.proofs.Common.{◌≡◌, ℕ, Option, Bool, true, false, cond, List, [], ◌∷◌, ◌++◌, refl, sym, ap, ◌∙◌, subst, ◌⊎◌, inl, inr}
+use Rattle.std.specs.List.{AllByRecursion, filter}
+use Rattle.tablet_model.specs.Cell.{Cell, column_of}
+use Rattle.tablet_model.specs.Families.{has_family, is_in}
+use Rattle.tablet_model.specs.Order.{above, same_column}
+use Rattle.tablet_model.specs.Sorted.{Ascends}
+use Rattle.tablet_model.specs.Sum.{sum_of}
+use Rattle.tablet_model.specs.Markers.{mark, live}
+use Rattle.tablet_model.specs.Stages.{Stage, stages}
+use Rattle.tablet_model.specs.Accepted.{IsOfColumns, IsWellMade, AreAccepted}
+use Rattle.tablet_model.specs.Reading.{IsReadBy, AreUnmarkedRead}
+use Rattle.tablet_model.specs.Ages.{IsApart, AreApart, IsNewer, AreNewer, HasPlainMarkers}
+use Rattle.tablet_model.proofs.Orders.{above_exact, exact_columns}
+use Rattle.tablet_model.proofs.Sums.{all_filter, all_weaker, Ascends-filter}
+use Rattle.tablet_model.proofs.Columns.{of_column, equal_by_columns, column-sum, column-live, column-mark, filter_within}
+use Rattle.tablet_model.proofs.OneColumn.{columns_tie, InColumn, of_column_in, Ascends-live, Ascends-sum}
+use Rattle.stage_laws.proofs.Parts.{column-stages, Ascends-stages, made_all, stages_none}
+use Rattle.stage_laws.proofs.Marked.{AreSplit, minor_in, full_in, added_in, Beside, beside_newer}
+
+-- the answer of a sum, column by column
+column_answer : (ss : List Stage) (c : Cell) (a x : List Cell) → of_column c (stages ss (live (sum_of a x))) ≡ stages ss (live (sum_of (of_column c a) (of_column c x)))
+column_answer ss c a x = column-stages ss c (live (sum_of a x)) ∙ ap (stages ss) (column-live c (sum_of a x) ∙ ap live (column-sum c a x))
+
+Ascends-answer : (ss : List Stage) → AreAccepted ss → (a x : List Cell) → Ascends above (stages ss (live (sum_of a x)))
+Ascends-answer ss acc a x = Ascends-stages ss (made_all ss acc) (live (sum_of a x)) (Ascends-live (sum_of a x) (Ascends-sum a x))
+
+-- answers of two sums that agree in each column
+pub equal_answers : (ss : List Stage) → AreAccepted ss → (a b x : List Cell) → ((c : Cell) → stages ss (live (sum_of (of_column c a) (of_column c x))) ≡ stages ss (live (sum_of (of_column c b) (of_column c x)))) → stages ss (live (sum_of a x)) ≡ stages ss (live (sum_of b x))
+equal_answers ss acc a b x h = equal_by_columns (stages ss (live (sum_of a x))) (stages ss (live (sum_of b x))) (Ascends-answer ss acc a x) (Ascends-answer ss acc b x) (λ c. column_answer ss c a x ∙ h c ∙ sym (column_answer ss c b x))
+
+pub read_column : (ss : List Stage) (c : Cell) (list : List Cell) → AreUnmarkedRead ss list → AreUnmarkedRead ss (of_column c list)
+read_column ss c list h = all_filter (λ e. e.key.deleted ≡ false → AllByRecursion (IsReadBy e) ss) (same_column c) list h
+
+newer_column : (plain : Cell → Bool) (c : Cell) (x a : List Cell) → AreNewer plain x a → AreNewer plain (of_column c x) (of_column c a)
+newer_column plain c x a h = all_filter (λ e. plain e ≡ true → AllByRecursion (IsNewer e) (of_column c a)) (same_column c) x (all_weaker (λ e. plain e ≡ true → AllByRecursion (IsNewer e) a) (λ e. plain e ≡ true → AllByRecursion (IsNewer e) (of_column c a)) (λ e k p. all_filter (IsNewer e) (same_column c) a (k p)) x h)
+
+-- in each column
+beside_column : (plain : Cell → Bool) → IsOfColumns plain → (c : Cell) (x a : List Cell) → HasPlainMarkers plain x → HasPlainMarkers plain a → AreNewer plain x a → Beside (of_column c x) (of_column c a)
+beside_column plain cols c x a mx ma newer = beside_newer plain cols c (of_column c x) (of_column c a) (of_column_in c x) (of_column_in c a) (all_filter (λ e. e.key.deleted ≡ true → plain e ≡ true) (same_column c) x mx) (all_filter (λ e. e.key.deleted ≡ true → plain e ≡ true) (same_column c) a ma) (newer_column plain c x a newer)
+
+apart_column : (c : Cell) (x a : List Cell) → AreSplit x a → AreSplit (of_column c x) (of_column c a)
+apart_column c x a h = all_filter (λ m. m.key.deleted ≡ true → AllByRecursion (IsNewer m) (of_column c a) ⊎ AllByRecursion (λ e. IsNewer e m) (of_column c a)) (same_column c) x
+    (all_weaker (λ m. m.key.deleted ≡ true → AllByRecursion (IsNewer m) a ⊎ AllByRecursion (λ e. IsNewer e m) a) (λ m. m.key.deleted ≡ true → AllByRecursion (IsNewer m) (of_column c a) ⊎ AllByRecursion (λ e. IsNewer e m) (of_column c a)) (λ m k d. both m (k d)) x h)
+  where
+    both : (m : Cell) → AllByRecursion (IsNewer m) a ⊎ AllByRecursion (λ e. IsNewer e m) a → AllByRecursion (IsNewer m) (of_column c a) ⊎ AllByRecursion (λ e. IsNewer e m) (of_column c a)
+    both m (inl k) = inl (all_filter (IsNewer m) (same_column c) a k)
+    both m (inr k) = inr (all_filter (λ e. IsNewer e m) (same_column c) a k)
+
+-- a part that a minor compaction took
+minor : (ps qs : List Stage) (a x : List Cell) → AreAccepted (ps ++ qs) → Ascends above a → AreUnmarkedRead (ps ++ qs) a → AreUnmarkedRead (ps ++ qs) x → AreSplit x a → stages (ps ++ qs) (live (sum_of (stages ps (mark a)) x)) ≡ stages (ps ++ qs) (live (sum_of a x))
+minor ps qs a x acc up ra rx apart = equal_answers (ps ++ qs) acc (stages ps (mark a)) a x (λ c.
+    ap (λ l. stages (ps ++ qs) (live (sum_of l (of_column c x)))) (column-stages ps c (mark a) ∙ ap (stages ps) (column-mark c a))
+    ∙ minor_in ps qs c (of_column c a) (of_column c x) acc (of_column_in c a) (of_column_in c x) (Ascends-filter above above_exact (same_column c) a up) (read_column (ps ++ qs) c a ra) (read_column (ps ++ qs) c x rx) (apart_column c x a apart))
+
+-- in columns where all markers are plain, it is enough to stand apart from the plain entries
+split_plain : (plain : Cell → Bool) → IsOfColumns plain → (x a : List Cell) → HasPlainMarkers plain x → AreApart plain x a → AreSplit x a
+split_plain plain cols [] a mx h = tt
+split_plain plain cols (m ∷ ms) a mx h = ((λ d. go (mx.0 d) (h.0 d)), split_plain plain cols ms a mx.1 h.1)
+  where
+    go : plain m ≡ true → IsApart plain a m → AllByRecursion (IsNewer m) a ⊎ AllByRecursion (λ e. IsNewer e m) a
+    go p (inl n) = inl (all_weaker (λ e. plain e ≡ true → IsNewer m e) (IsNewer m) (λ e k s. k (cols m e s ∙ p) s) a n)
+    go p (inr o) = inr (all_weaker (λ e. plain e ≡ true → IsNewer e m) (λ e. IsNewer e m) (λ e k s. k (sym (cols e m s) ∙ p) s) a o)
+
+-- a part that a minor compaction took, beside plain markers
+pub minor_plain : (plain : Cell → Bool) → IsOfColumns plain → (ps qs : List Stage) (a x : List Cell) → AreAccepted (ps ++ qs) → Ascends above a → AreUnmarkedRead (ps ++ qs) a → AreUnmarkedRead (ps ++ qs) x → HasPlainMarkers plain x → AreApart plain x a → stages (ps ++ qs) (live (sum_of (stages ps (mark a)) x)) ≡ stages (ps ++ qs) (live (sum_of a x))
+minor_plain plain cols ps qs a x acc up ra rx mx apart = minor ps qs a x acc up ra rx (split_plain plain cols x a mx apart)
+
+-- a part that a full compaction took
+pub full : (plain : Cell → Bool) → IsOfColumns plain → (ps qs : List Stage) (a x : List Cell) → AreAccepted (ps ++ qs) → Ascends above a → AreUnmarkedRead (ps ++ qs) a → AreUnmarkedRead (ps ++ qs) x → HasPlainMarkers plain a → HasPlainMarkers plain x → AreNewer plain x a → stages (ps ++ qs) (live (sum_of (stages ps (live a)) x)) ≡ stages (ps ++ qs) (live (sum_of a x))
+full plain cols ps qs a x acc up ra rx ma mx newer = equal_answers (ps ++ qs) acc (stages ps (live a)) a x (λ c.
+    ap (λ l. stages (ps ++ qs) (live (sum_of l (of_column c x)))) (column-stages ps c (live a) ∙ ap (stages ps) (column-live c a))
+    ∙ full_in ps qs c (of_column c a) (of_column c x) acc (of_column_in c a) (of_column_in c x) (Ascends-filter above above_exact (same_column c) a up) (read_column (ps ++ qs) c a ra) (read_column (ps ++ qs) c x rx) (beside_column plain cols c x a mx ma newer))
+
+-- what is newer than two lists of one answer
+pub added : (plain : Cell → Bool) → IsOfColumns plain → (ss : List Stage) (u w v : List Cell) → AreAccepted ss → Ascends above u → Ascends above w → AreUnmarkedRead ss u → AreUnmarkedRead ss w → AreUnmarkedRead ss v → HasPlainMarkers plain u → HasPlainMarkers plain w → HasPlainMarkers plain v → AreNewer plain v u → AreNewer plain v w → stages ss (live u) ≡ stages ss (live w) → stages ss (live (sum_of u v)) ≡ stages ss (live (sum_of w v))
+added plain cols ss u w v acc uu uw ru rw' rv mu mw mv nu nw same = equal_answers ss acc u w v (λ c.
+    added_in ss c (of_column c u) (of_column c w) (of_column c v) acc (of_column_in c u) (of_column_in c w) (of_column_in c v) (Ascends-filter above above_exact (same_column c) u uu) (Ascends-filter above above_exact (same_column c) w uw)
+    (read_column ss c u ru) (read_column ss c w rw') (read_column ss c v rv) (beside_column plain cols c v u mv mu nu) (beside_column plain cols c v w mv mw nw)
+    (in_column c u ∙ ap (of_column c) same ∙ sym (in_column c w)))
+  where
+    in_column : (c : Cell) (l : List Cell) → stages ss (live (of_column c l)) ≡ of_column c (stages ss (live l))
+    in_column c l = sym (column-stages ss c (live l) ∙ ap (stages ss) (column-live c l))
+
+-- a restriction to columns, as to families, before or after
+restrict_sum_in : (fam : Cell → Bool) → IsOfColumns fam → (f : List Cell → List Cell) → f [] ≡ [] → (c : Cell) (list : List Cell) → InColumn c list → InColumn c (f list) → filter fam (f list) ≡ f (filter fam list)
+restrict_sum_in fam cols f none c list i j = go (fam c) refl
+  where
+    at : (b : Bool) → fam c ≡ b → (l : List Cell) → InColumn c l → filter fam l ≡ cond b l []
+    at b h l k = whole fam b l (all_weaker (λ e. same_column c e ≡ true) (λ e. fam e ≡ b) (λ e s. cols c e s ∙ h) l k)
+      where
+        whole : (p : Cell → Bool) (b : Bool) (l : List Cell) → AllByRecursion (λ e. p e ≡ b) l → filter p l ≡ cond b l []
+        whole p true [] k = refl
+        whole p false [] k = refl
+        whole p true (e ∷ es) k = rw k.0 (ap (λ z. e ∷ z) (whole p true es k.1))
+        whole p false (e ∷ es) k = rw k.0 (whole p false es k.1)
+
+    go : (b : Bool) → fam c ≡ b → filter fam (f list) ≡ f (filter fam list)
+    go true h = at true h (f list) j ∙ ap f (sym (at true h list i))
+    go false h = at false h (f list) j ∙ sym none ∙ ap f (sym (at false h list i))
+
+filter_swap : (p q : Cell → Bool) (list : List Cell) → filter p (filter q list) ≡ filter q (filter p list)
+filter_swap p q list = filter_within p q q (λ e h. refl) list
+
+-- a map of lists that works on each column by itself
+abbrev IsLocal : (List Cell → List Cell) → Type 0
+IsLocal f = (c : Cell) (list : List Cell) → of_column c (f list) ≡ f (of_column c list)
+
+restrict : (fam : Cell → Bool) → IsOfColumns fam → (f : List Cell → List Cell) → f [] ≡ [] → IsLocal f → (list : List Cell) → Ascends above (f list) → Ascends above (f (filter fam list)) → filter fam (f list) ≡ f (filter fam list)
+restrict fam cols f none local list up down = equal_by_columns (filter fam (f list)) (f (filter fam list)) (Ascends-filter above above_exact fam (f list) up) down (λ c.
+    filter_swap (same_column c) fam (f list)
+    ∙ ap (filter fam) (local c list)
+    ∙ restrict_sum_in fam cols f none c (of_column c list) (of_column_in c list) (subst (InColumn c) (local c list) (of_column_in c (f list)))
+    ∙ ap f (filter_swap fam (same_column c) list)
+    ∙ sym (local c (filter fam list)))
+
+live_none : live [] ≡ []
+unfolding live
+live_none = refl
+
+-- `Live` of the families is the families of `Live`
+pub restrict_live : (fam : Cell → Bool) → IsOfColumns fam → (list : List Cell) → Ascends above list → filter fam (live list) ≡ live (filter fam list)
+restrict_live fam cols list up = restrict fam cols live live_none column-live list (Ascends-live list up) (Ascends-live (filter fam list) (Ascends-filter above above_exact fam list up))
+
+pub restrict_stages : (fam : Cell → Bool) → IsOfColumns fam → (ss : List Stage) → AllByRecursion IsWellMade ss → (list : List Cell) → Ascends above list → filter fam (stages ss list) ≡ stages ss (filter fam list)
+restrict_stages fam cols ss w list up = restrict fam cols (stages ss) (stages_none ss) (column-stages ss) list (Ascends-stages ss w list up) (Ascends-stages ss w (filter fam list) (Ascends-filter above above_exact fam list up))
+
+pub restrict_answer : (fam : Cell → Bool) → IsOfColumns fam → (ss : List Stage) → AllByRecursion IsWellMade ss → (list : List Cell) → Ascends above list → filter fam (stages ss (live list)) ≡ stages ss (live (filter fam list))
+restrict_answer fam cols ss w list up = restrict_stages fam cols ss w (live list) (Ascends-live list up) ∙ ap (stages ss) (restrict_live fam cols list up)
+
+-- families are such columns
+pub families_columns : (families : Option (List (List ℕ))) → IsOfColumns (is_in families)
+families_columns families d e h = ap (λ k. has_family families k.family) (sym (exact_columns (column_of d.key) (column_of e.key) (columns_tie d e h)))
