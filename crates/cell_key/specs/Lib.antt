@@ -1,0 +1,9 @@
+pub mod Views
+pub mod Made
+pub mod RowBounds
+pub mod Ranges
+pub mod ColumnParts
+pub mod BoundParts
+pub mod Mutations
+pub mod Escape
+pub mod Unescape

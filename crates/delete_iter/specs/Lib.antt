@@ -1,0 +1,4 @@
+pub mod Passes
+pub mod MarkStages
+pub mod MarkParts
+pub mod LiveParts

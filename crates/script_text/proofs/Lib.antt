@@ -1,0 +1,5 @@
+pub mod Positions
+pub mod Cutting
+pub mod Wording
+pub mod Updating
+pub mod Examples

@@ -1,0 +1,140 @@
+// Each function that appends may leave a part of its line in the text where memory is wanting.
+ghost use Rattle.std.specs.Prelude.{◌≡◌, ◌++◌, IfOk, OnOk};
+ghost use Rattle.std.specs.Fmt.{decimal, signed_decimal};
+ghost use Rattle.cell_key.specs.Views.{cell_of};
+ghost use Rattle.script_text.specs.Answers.{accepted_line, at_line, end_line, entry_line, number_line, part_name, refusal_code, refusal_line, value_text};
+
+use crate::refusal::Refusal;
+use cell_key::{ByteText, EntryRef, NoMemory, Part, append_escape};
+use std::alloc::Global;
+
+fn append_number(alloc: Global, text: &mut ByteText, n: u64) -> Result<(), NoMemory>
+    ensures { OnOk result (text.new ≡ text.old ++ decimal n) }
+{
+    let digits = n.to_string(alloc)?;
+    text.append(digits.as_str().as_bytes())
+}
+
+fn append_time(alloc: Global, text: &mut ByteText, time: i64) -> Result<(), NoMemory>
+    ensures { OnOk result (text.new ≡ text.old ++ signed_decimal time) }
+{
+    let digits = time.to_string(alloc)?;
+    text.append(digits.as_str().as_bytes())
+}
+
+fn append_value(text: &mut ByteText, entry: EntryRef<'_>) -> Result<(), NoMemory>
+    ensures { OnOk result (text.new ≡ text.old ++ value_text (cell_of entry.entry)) }
+{
+    if entry.key.deleted {
+        return text.append(b"-");
+    }
+    text.append(b"=")?;
+    append_escape(text, entry.value)
+}
+
+/// Appends an entry's line, `ROW FAMILY:QUALIFIER:VISIBILITY @TIME =VALUE`, with each part escaped. A marker
+/// has `-` in place of `=VALUE`.
+#[tactic(auto, unfolding(crate::specs::Answers::entry_line))]
+pub fn append_entry(alloc: Global, text: &mut ByteText, entry: EntryRef<'_>) -> Result<(), NoMemory>
+    ensures { OnOk result (text.new ≡ text.old ++ entry_line (cell_of entry.entry)) }
+{
+    append_escape(text, entry.key.row)?;
+    text.append(b" ")?;
+    append_escape(text, entry.key.family)?;
+    text.append(b":")?;
+    append_escape(text, entry.key.qualifier)?;
+    text.append(b":")?;
+    append_escape(text, entry.key.visibility)?;
+    text.append(b" @")?;
+    append_time(alloc, text, entry.key.time)?;
+    text.append(b" ")?;
+    append_value(text, entry)?;
+    text.append(b"\n")
+}
+
+/// The line of an entry, as `append_entry` writes it.
+pub fn entry_text(alloc: Global, entry: EntryRef<'_>) -> Result<ByteText, NoMemory>
+    ensures { IfOk result (λ text. text ≡ entry_line (cell_of entry.entry)) }
+{
+    let mut text = ByteText::new(alloc);
+    append_entry(alloc, &mut text, entry)?;
+    Ok(text)
+}
+
+fn append_number_line(
+    alloc: Global,
+    text: &mut ByteText,
+    word: &[u8],
+    n: u64,
+) -> Result<(), NoMemory>
+    ensures { OnOk result (text.new ≡ text.old ++ number_line word.now n) }
+{
+    text.append(word)?;
+    text.append(b" ")?;
+    append_number(alloc, text, n)?;
+    text.append(b"\n")
+}
+
+/// Appends `m N`: a mutation was accepted, as the `n`th.
+pub fn append_accepted(alloc: Global, text: &mut ByteText, n: u64) -> Result<(), NoMemory>
+    ensures { OnOk result (text.new ≡ text.old ++ accepted_line n) }
+{
+    append_number_line(alloc, text, b"m", n)
+}
+
+/// Appends `at N`: entries follow, of a view of the first `n` mutations.
+pub fn append_at(alloc: Global, text: &mut ByteText, n: u64) -> Result<(), NoMemory>
+    ensures { OnOk result (text.new ≡ text.old ++ at_line n) }
+{
+    append_number_line(alloc, text, b"at", n)
+}
+
+/// Appends `end N`: nothing is left, in a view of the first `n` mutations.
+pub fn append_end(alloc: Global, text: &mut ByteText, n: u64) -> Result<(), NoMemory>
+    ensures { OnOk result (text.new ≡ text.old ++ end_line n) }
+{
+    append_number_line(alloc, text, b"end", n)
+}
+
+fn part_name(part: Part) -> &'static [u8]
+    ensures { result.now ≡ part_name part }
+{
+    match part {
+        Part::Row => b"row",
+        Part::Family => b"family",
+        Part::Qualifier => b"qualifier",
+        Part::Visibility => b"visibility",
+        Part::Value => b"value",
+        Part::Updates => b"updates",
+    }
+}
+
+fn append_code(text: &mut ByteText, refusal: &Refusal) -> Result<(), NoMemory>
+    ensures { OnOk result (text.new ≡ text.old ++ refusal_code refusal.now) }
+{
+    match refusal {
+        Refusal::Syntax => text.append(b"syntax"),
+        Refusal::Bound(part) => {
+            text.append(b"bound ")?;
+            text.append(part_name(*part))
+        }
+    }
+}
+
+/// Appends a refusal's line, `no CODE`.
+pub fn append_refusal(text: &mut ByteText, refusal: &Refusal) -> Result<(), NoMemory>
+    ensures { OnOk result (text.new ≡ text.old ++ refusal_line refusal.now) }
+{
+    text.append(b"no ")?;
+    append_code(text, refusal)?;
+    text.append(b"\n")
+}
+
+/// The line of a refusal, as `append_refusal` writes it.
+pub fn refusal_text(alloc: Global, refusal: &Refusal) -> Result<ByteText, NoMemory>
+    ensures { IfOk result (λ text. text ≡ refusal_line refusal.now) }
+{
+    let mut text = ByteText::new(alloc);
+    append_refusal(&mut text, refusal)?;
+    Ok(text)
+}

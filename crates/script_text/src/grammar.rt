@@ -1,0 +1,69 @@
+ghost use Rattle.std.specs.Prelude.{◌≡◌};
+ghost use Rattle.script_text.specs.Grammar.{is_comment, line_of, mutation_of, scan_of};
+ghost use Rattle.script_text.specs.Reading.{Gives};
+ghost use Rattle.script_text.specs.Words.{words_of};
+
+use crate::line::{Line, LineError};
+use crate::parts::part_text;
+use crate::updates::parse_updates;
+use crate::words::next_word;
+use cell_key::Mutation;
+use std::alloc::Global;
+
+/// What stands behind `m`: a row and its updates.
+#[tactic(auto, unfolding(crate::specs::Grammar::mutation_of))]
+fn parse_mutation(alloc: Global, text: &[u8]) -> Result<Line, LineError>
+    ensures { Gives (λ l. l) (mutation_of (words_of text.now)) result }
+{
+    let Some((row, rest)) = next_word(text) else {
+        return Err(LineError::Syntax);
+    };
+    let row = part_text(alloc, row)?;
+    let updates = parse_updates(alloc, rest)?;
+    Ok(Line::Mutate(Mutation { row, updates }))
+}
+
+/// What stands behind `scan`: nothing.
+#[tactic(auto, unfolding(crate::specs::Grammar::scan_of))]
+fn parse_scan(text: &[u8]) -> Result<Line, LineError>
+    ensures { Gives (λ l. l) (scan_of (words_of text.now)) result }
+{
+    match next_word(text) {
+        None => Ok(Line::Scan),
+        Some(_) => Err(LineError::Syntax),
+    }
+}
+
+fn is_comment(word: &[u8]) -> bool
+    ensures { result ≡ is_comment word.now }
+{
+    matches!(word, [b'#', ..])
+}
+
+/// Reads a script line, without the newline that ends it. Its words stand between runs of spaces and tabs.
+///
+/// - No words, or a first word that begins with `#`, is [`Line::Nothing`].
+/// - `m ROW UPDATE ..` is [`Line::Mutate`]. A put is `+FAMILY:QUALIFIER:VISIBILITY=VALUE`, a delete is
+///   `-FAMILY:QUALIFIER:VISIBILITY`, and a part runs to the first byte that ends it and is then unescaped.
+/// - `scan` is [`Line::Scan`].
+///
+/// Any other line has no reading, and the error [`LineError::Syntax`] comes exactly there. Only a mutation
+/// takes memory.
+#[tactic(auto, unfolding(crate::specs::Grammar::reading_of))]
+pub fn parse_line(alloc: Global, line: &[u8]) -> Result<Line, LineError>
+    ensures { Gives (λ l. l) (line_of line.now) result }
+{
+    let Some((word, rest)) = next_word(line) else {
+        return Ok(Line::Nothing);
+    };
+    if is_comment(word) {
+        return Ok(Line::Nothing);
+    }
+    if word == b"m".as_slice() {
+        return parse_mutation(alloc, rest);
+    }
+    if word == b"scan".as_slice() {
+        return parse_scan(rest);
+    }
+    Err(LineError::Syntax)
+}

@@ -1,0 +1,25 @@
+//! The text of a session with a tablet: how an input is cut into a configuration and script lines, what a
+//! script line says, and the lines that answer it.
+#![tactic(auto)]
+
+mod answers;
+mod grammar;
+mod line;
+mod line_laws;
+mod lines;
+mod parts;
+mod refusal;
+mod search;
+#[cfg(test)]
+mod tests;
+mod updates;
+mod words;
+
+pub use answers::{
+    append_accepted, append_at, append_end, append_entry, append_refusal, entry_text, refusal_text,
+};
+pub use grammar::parse_line;
+pub use line::{Line, LineError};
+pub use line_laws::lines_are_whole;
+pub use lines::{Lines, split_input};
+pub use refusal::Refusal;

@@ -1,0 +1,127 @@
+use crate::*;
+use cell_key::{ByteText, EntryRef, Key, Mutation, NoMemory, Part};
+use std::alloc::Global;
+use std::test::Fail;
+
+/// The parts of a mutation, each in brackets.
+fn shown(alloc: Global, mutation: &Mutation) -> Result<ByteText, NoMemory> {
+    let mut text = ByteText::of(alloc, b"m")?;
+    append_part(&mut text, &mutation.row)?;
+    for update in mutation.updates.as_slice() {
+        text.append(if update.value.is_some() {
+            b" put"
+        } else {
+            b" del"
+        })?;
+        append_part(&mut text, &update.family)?;
+        append_part(&mut text, &update.qualifier)?;
+        append_part(&mut text, &update.visibility)?;
+        if let Some(value) = &update.value {
+            append_part(&mut text, value)?;
+        }
+    }
+    Ok(text)
+}
+
+fn append_part(text: &mut ByteText, part: &ByteText) -> Result<(), NoMemory> {
+    text.append(b"[")?;
+    text.append(part.bytes())?;
+    text.append(b"]")
+}
+
+/// What a line was read as.
+fn reading(alloc: Global, line: &str) -> Result<ByteText, NoMemory> {
+    match parse_line(alloc, line.as_bytes()) {
+        Ok(Line::Nothing) => ByteText::of(alloc, b"nothing"),
+        Ok(Line::Mutate(mutation)) => shown(alloc, &mutation),
+        Ok(Line::Scan) => ByteText::of(alloc, b"scan"),
+        Err(LineError::Syntax) => ByteText::of(alloc, b"syntax"),
+        Err(LineError::NoMemory) => Err(NoMemory),
+    }
+}
+
+#[test]
+fn reads_lines(rt: HostRuntime) -> Result<(), Fail> {
+    let alloc = rt.alloc();
+    let cases = [
+        (" \t", "nothing"),
+        ("  # m r1 +a:x:=1", "nothing"),
+        ("\tscan ", "scan"),
+        ("scan\r", "syntax"),
+        ("m r1", "m[r1]"),
+        ("m r1 +a:x:=1", "m[r1] put[a][x][][1]"),
+        ("m  r1\t+a:x:=1  -b::w ", "m[r1] put[a][x][][1] del[b][][w]"),
+        ("m r +a:x:v:w=1=2", "m[r] put[a][x][v:w][1=2]"),
+        (
+            "m \\x20\\x3A +\\x3a:\\x0a:\\x5c=\\x00",
+            "m[ :] put[:][\n][\\][\0]",
+        ),
+        ("m r1 +a:x:", "syntax"),
+        ("m r1 +a:x:=\\x4", "syntax"),
+    ];
+    for (line, want) in cases {
+        assert_eq!(rt;
+            reading(alloc, line)?.bytes(),
+            want.as_bytes(),
+            "at {line:?}"
+        );
+    }
+
+    let (config, script) = split_input(b"a\r\n%% \n%%\r\nscan\r\r\n\n%%\nm r");
+    assert_eq!(rt; config, b"a\r\n%% \n".as_slice());
+    let mut lines = Lines::new(script);
+    for want in [b"scan\r".as_slice(), b"", b"%%", b"m r"] {
+        assert_eq!(rt; lines.next(), Some(want));
+    }
+    assert_eq!(rt; lines.next(), None);
+    Ok(())
+}
+
+#[test]
+fn writes_answers(rt: HostRuntime) -> Result<(), Fail> {
+    let alloc = rt.alloc();
+    let live = Key::new(alloc, b"r 1", b"a", b"x:y", b"(v)", -12, false)?;
+    let marker = Key::new(alloc, b"r2", b"", b"", b"", i64::MIN, true)?;
+    let entry = entry_text(
+        alloc,
+        EntryRef {
+            key: live.key(),
+            value: b"1=\n\xff",
+        },
+    )?;
+    assert_eq!(rt;
+        entry.bytes(),
+        b"r\\x201 a:x\\x3ay:\\x28v\\x29 @-12 =1\\x3d\\x0a\\xff\n".as_slice()
+    );
+
+    let mut text = ByteText::new(alloc);
+    append_accepted(alloc, &mut text, 1)?;
+    append_at(alloc, &mut text, u64::MAX)?;
+    append_entry(
+        alloc,
+        &mut text,
+        EntryRef {
+            key: marker.key(),
+            value: b"",
+        },
+    )?;
+    append_end(alloc, &mut text, 0)?;
+    append_refusal(&mut text, &Refusal::Bound(Part::Row))?;
+    let want =
+        b"m 1\nat 18446744073709551615\nr2 :: @-9223372036854775808 -\nend 0\nno bound row\n";
+    assert_eq!(rt; text.bytes(), want.as_slice());
+
+    let cases = [
+        (Refusal::Syntax, "no syntax\n"),
+        (Refusal::Bound(Part::Row), "no bound row\n"),
+        (Refusal::Bound(Part::Updates), "no bound updates\n"),
+        (Refusal::Bound(Part::Family), "no bound family\n"),
+        (Refusal::Bound(Part::Qualifier), "no bound qualifier\n"),
+        (Refusal::Bound(Part::Visibility), "no bound visibility\n"),
+        (Refusal::Bound(Part::Value), "no bound value\n"),
+    ];
+    for (refusal, want) in cases {
+        assert_eq!(rt; refusal_text(alloc, &refusal)?.bytes(), want.as_bytes());
+    }
+    Ok(())
+}

@@ -1,0 +1,3 @@
+mod Bounded
+mod Numbered
+mod Scans

@@ -1,0 +1,119 @@
+ghost use Rattle.std.specs.Prelude.{◌≡◌, ◌<◌, ◌^◌, ◌++◌, [], ◌∷◌, length, map, pos, IfOk, OnOk};
+ghost use Rattle.tablet_model.specs.Bounds.{KeyBounds};
+ghost use Rattle.tablet_model.specs.Order.{above};
+ghost use Rattle.tablet_model.specs.Sorted.{Ascends};
+ghost use Rattle.tablet_model.specs.History.{entries_of, entry_of, history_entries, numbered};
+ghost use Rattle.cell_key.specs.Mutations.{change_of, row_change_of};
+ghost use Rattle.cell_key.specs.Views.{cell_of};
+ghost use Rattle.tablet_cli.specs.Bounds.{AreInBounds, IsInBounds};
+
+use cell_key::{Entries, Entry, EntryRef, KeyRef, Mutation, Mutations, NoMemory, Update};
+use std::alloc::Global;
+use std::marker::Model;
+
+/// The mutations that were accepted, in order. Each has its parts in bounds.
+#[derive(Drop)]
+pub struct History {
+    log: Mutations,
+}
+
+impl Model for History {
+    ghost use Rattle.std.specs.Prelude.{List};
+    ghost use Rattle.cell_key.specs.declared.mutation.Mutation.{Mutation};
+    ghost use Rattle.tablet_cli.specs.Bounds.{AreInBounds};
+
+    ghost Value = { List Mutation };
+
+    ghost view = { λ h. h.log };
+
+    ghost invariant = { λ h. AreInBounds h.log };
+}
+
+impl History {
+    /// No mutations. It takes no memory.
+    pub fn new(alloc: Global) -> History
+        ensures { result ≡ [] }
+    {
+        History {
+            log: Mutations::new(alloc),
+        }
+    }
+
+    /// How many mutations there are. It takes no memory.
+    pub fn len(&self) -> usize
+        ensures { result ≡ length self.now }
+    {
+        self.log.len()
+    }
+
+    /// One mutation more, at the end.
+    pub fn push(&mut self, mutation: Mutation) -> Result<(), NoMemory>
+        requires { IsInBounds mutation }
+        ensures { OnOk result (self.new ≡ self.old ++ mutation ∷ []) }
+    {
+        self.log.push(mutation)
+    }
+
+    /// Its entries in order: the k-th mutation gives one for each of its updates, at the time k.
+    pub fn entries(&self, alloc: Global) -> Result<Entries, NoMemory>
+        ensures entries { IfOk result (λ entries. entries ≡ history_entries (map row_change_of self.now)) }
+        ensures ascends { IfOk result (Ascends above) }
+    {
+        let mut entries = numbered_entries(alloc, &self.log)?;
+        entries.sort()?;
+        Ok(entries)
+    }
+}
+
+/// The entries of a log, mutation by mutation.
+fn numbered_entries(alloc: Global, log: &Mutations) -> Result<Entries, NoMemory>
+    requires { AreInBounds log.now }
+    ensures { IfOk result (λ entries. entries ≡ numbered 0 (map row_change_of log.now)) }
+{
+    let mut entries = Entries::new(alloc);
+    for (k, mutation) in log.as_slice().iter().enumerate() {
+        push_mutation(alloc, &mut entries, (k + 1) as u64, mutation)?;
+    }
+    Ok(entries)
+}
+
+/// Puts the entries of a mutation at the end.
+fn push_mutation(
+    alloc: Global,
+    entries: &mut Entries,
+    time: u64,
+    mutation: &Mutation,
+) -> Result<(), NoMemory>
+    requires bounds { IsInBounds mutation.now }
+    requires time { time < 2 ^ 63 }
+    ensures { OnOk result (entries.new ≡ entries.old ++ entries_of (pos time) (row_change_of mutation.now)) }
+{
+    for update in mutation.updates.as_slice() {
+        let entry = Entry::of(alloc, entry_of(mutation.row.bytes(), time, update))?;
+        entries.push(entry)?;
+    }
+    Ok(())
+}
+
+/// The entry of an update at a time. A delete gives a marker, whose value is empty.
+fn entry_of<'a>(row: &'a [u8], time: u64, update: &'a Update) -> EntryRef<'a>
+    requires bounds { KeyBounds row.now update.now.family update.now.qualifier update.now.visibility }
+    requires time { time < 2 ^ 63 }
+    ensures { cell_of result ≡ entry_of row.now (pos time) (change_of update.now) }
+{
+    let (value, deleted): (&[u8], bool) = match &update.value {
+        Some(value) => (value.bytes(), false),
+        None => (&[], true),
+    };
+    EntryRef {
+        key: KeyRef {
+            row,
+            family: update.family.bytes(),
+            qualifier: update.qualifier.bytes(),
+            visibility: update.visibility.bytes(),
+            time: time as i64,
+            deleted,
+        },
+        value,
+    }
+}

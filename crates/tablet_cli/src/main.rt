@@ -1,0 +1,43 @@
+// The program: the words of the command line, the text that answers a script, and the status of a run.
+#![tactic(auto)]
+
+mod command;
+mod history;
+mod ingest;
+mod scan;
+mod script;
+#[cfg(test)]
+mod tests;
+
+use crate::command::run;
+use std::io::ErrorKind;
+use std::process::ExitCode;
+use std::{env, io};
+use tablet_io::{OpenGate, Status, StdSink, StdSource};
+
+/// The process ends so where the system gave no words for another cause than memory.
+const NO_WORDS: u8 = 9;
+
+/// The words behind the program's name.
+fn words(rt: &HostRuntime) -> io::Result<Vec<String>> {
+    let mut words = Vec::new(rt.alloc());
+    for word in env::args(rt)?.skip(1) {
+        words.push(word)?;
+    }
+    Ok(words)
+}
+
+fn main(rt: HostRuntime) -> ExitCode {
+    match words(&rt) {
+        Ok(words) => {
+            let mut input = StdSource::new(rt.stdin());
+            let mut output = StdSink::new(rt.stdout());
+            let status = run(&rt, rt.alloc(), &words, &mut input, &mut output, &OpenGate);
+            ExitCode::from(status.number())
+        }
+        Err(error) if error.kind() == ErrorKind::OutOfMemory => {
+            ExitCode::from(Status::NoMemory.number())
+        }
+        Err(_) => ExitCode::from(NO_WORDS),
+    }
+}

@@ -1,0 +1,5 @@
+pub mod Causes
+pub mod CallNumbers
+pub mod Ports
+pub mod Statuses
+pub mod Streams

@@ -1,0 +1,21 @@
+// The outside: sources and sinks of bytes with counts of faults, a gate of the live program, and how a run ends.
+#![tactic(auto)]
+
+mod calls;
+mod gate;
+mod memory;
+mod ports;
+mod status;
+mod streams;
+mod system;
+#[cfg(test)]
+mod tests;
+
+pub use calls::Calls;
+pub use cell_key::NoMemory;
+pub use gate::{Gate, OpenGate, Place};
+pub use memory::{MemSink, MemSource};
+pub use ports::{Got, Put, Sink, Source};
+pub use status::Status;
+pub use streams::{ReadError, WriteFault, read_all, write_all};
+pub use system::{StdSink, StdSource};
