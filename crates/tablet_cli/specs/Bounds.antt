@@ -30,5 +30,6 @@ part_out m = bound_part (out_of_bounds (row_change_of m))
 abbrev pub IsInBounds : Mutation → Type 0
 IsInBounds m = out_of_bounds (row_change_of m) ≡ None
 
+-- so is each mutation of a list
 abbrev pub AreInBounds : List Mutation → Type 0
 AreInBounds h = AllByRecursion IsInBounds h

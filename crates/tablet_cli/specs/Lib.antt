@@ -1,4 +1,5 @@
 pub mod Words
 pub mod Bounds
+pub mod Refusals
 pub mod Replay
 pub mod Outcome

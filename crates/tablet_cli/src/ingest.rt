@@ -4,10 +4,7 @@ ghost use Rattle.tablet_model.specs.Ingest.{first_too_long, too_long};
 ghost use Rattle.cell_key.specs.Mutations.{change_of};
 ghost use Rattle.tablet_cli.specs.Bounds.{bound_part, part_out, told_part};
 
-use cell_key::{Mutation, Part, Update, Updates};
-
-/// The longest row, and the longest of any other part of a key, in bytes.
-const MAX_PART: usize = 1024;
+use cell_key::{MAX_KEY_PART, Mutation, Part, Update, Updates};
 
 /// The longest value, in bytes.
 const MAX_VALUE: usize = 65_536;
@@ -20,13 +17,13 @@ const MAX_UPDATES: usize = 100;
 fn long_part(update: &Update) -> Option<Part>
     ensures { result ≡ option_map told_part (too_long (change_of update.now)) }
 {
-    if update.family.len() > MAX_PART {
+    if update.family.len() > MAX_KEY_PART {
         return Some(Part::Family);
     }
-    if update.qualifier.len() > MAX_PART {
+    if update.qualifier.len() > MAX_KEY_PART {
         return Some(Part::Qualifier);
     }
-    if update.visibility.len() > MAX_PART {
+    if update.visibility.len() > MAX_KEY_PART {
         return Some(Part::Visibility);
     }
     match &update.value {
@@ -52,10 +49,10 @@ fn first_long_part(updates: &Updates) -> Option<Part>
 pub fn part_out(mutation: &Mutation) -> Option<Part>
     ensures { result ≡ part_out mutation.now }
 {
-    if mutation.row.len() < 1 || mutation.row.len() > MAX_PART {
+    if mutation.row.is_empty() || mutation.row.len() > MAX_KEY_PART {
         return Some(Part::Row);
     }
-    if mutation.updates.len() < 1 || mutation.updates.len() > MAX_UPDATES {
+    if mutation.updates.is_empty() || mutation.updates.len() > MAX_UPDATES {
         return Some(Part::Updates);
     }
     first_long_part(&mutation.updates)

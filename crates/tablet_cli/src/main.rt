@@ -2,8 +2,10 @@
 #![tactic(auto)]
 
 mod command;
+mod drain;
 mod history;
 mod ingest;
+mod refusal;
 mod scan;
 mod script;
 #[cfg(test)]

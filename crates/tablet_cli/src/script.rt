@@ -6,8 +6,10 @@ ghost use Rattle.tablet_cli.specs.Replay.{history_after, is_refused, line_answer
 
 use crate::history::History;
 use crate::ingest::part_out;
+use crate::refusal::config_line;
 use crate::scan::append_scan;
 use cell_key::{ByteText, Mutation, NoMemory};
+use iter_config::{Config, ConfigError, read_config};
 use script_text::{
     Line, LineError, Lines, Refusal, append_accepted, append_refusal, parse_line, split_input,
 };
@@ -27,29 +29,27 @@ pub fn reply_to(alloc: Global, input: &[u8]) -> Result<Reply, NoMemory>
     ensures refusal { IfOk result (λ reply. reply.is_refusal ≡ is_refused input.now) }
 {
     let (config, script) = split_input(input);
-    if config.is_empty() {
-        let text = answers_to(alloc, script)?;
-        return Ok(Reply {
-            text,
+    match read_config(alloc, config) {
+        Ok(config) => Ok(Reply {
+            text: answers_to(alloc, &config, script)?,
             is_refusal: false,
-        });
+        }),
+        Err(ConfigError::Refused { rule, at }) => Ok(Reply {
+            text: config_line(alloc, rule, at)?,
+            is_refusal: true,
+        }),
+        Err(ConfigError::NoMemory) => Err(NoMemory),
     }
-    let text = ByteText::of(alloc, b"config toml 0\n")?;
-    Ok(Reply {
-        text,
-        is_refusal: true,
-    })
 }
 
 /// The answers to the lines of a script.
-fn answers_to(alloc: Global, script: &[u8]) -> Result<ByteText, NoMemory>
-    ensures { IfOk result (λ text. text ≡ script_answers [] (lines_of script.now)) }
+fn answers_to(alloc: Global, config: &Config, script: &[u8]) -> Result<ByteText, NoMemory>
+    ensures { IfOk result (λ text. text ≡ script_answers config.now [] (lines_of script.now)) }
 {
     let mut text = ByteText::new(alloc);
     let mut history = History::new(alloc);
-    let mut lines = Lines::new(script);
-    while let Some(line) = lines.next() {
-        answer_line(alloc, &mut history, line, &mut text)?;
+    for line in Lines::new(script) {
+        answer_line(alloc, config, &mut history, line, &mut text)?;
     }
     Ok(text)
 }
@@ -58,11 +58,12 @@ fn answers_to(alloc: Global, script: &[u8]) -> Result<ByteText, NoMemory>
 #[tactic(auto, unfolding(crate::specs::Replay::line_answer, crate::specs::Replay::history_after))]
 fn answer_line(
     alloc: Global,
+    config: &Config,
     history: &mut History,
     line: &[u8],
     text: &mut ByteText,
 ) -> Result<(), NoMemory>
-    ensures text { OnOk result (text.new ≡ text.old ++ line_answer history.old (line_of line.now)) }
+    ensures text { OnOk result (text.new ≡ text.old ++ line_answer config.now history.old (line_of line.now)) }
     ensures history { OnOk result (history.new ≡ history_after history.old (line_of line.now)) }
 {
     match parse_line(alloc, line) {
@@ -70,7 +71,7 @@ fn answer_line(
         Err(LineError::Syntax) => append_refusal(text, &Refusal::Syntax),
         Ok(Line::Nothing) => Ok(()),
         Ok(Line::Mutate(mutation)) => answer_mutation(alloc, history, mutation, text),
-        Ok(Line::Scan) => append_scan(alloc, history, text),
+        Ok(Line::Scan) => append_scan(alloc, config, history, text),
     }
 }
 

@@ -51,7 +51,7 @@ fn answers_scripts(rt: HostRuntime) -> Result<(), Fail> {
             "no bound updates\nno syntax\nend 0\n",
         ),
         ("", ""),
-        ("colour = 1\n%%\nscan\n", "config toml 0\n"),
+        ("colour = 1\n%%\nscan\n", "config field 0\n"),
         ("scan\n", "config toml 0\n"),
     ];
     for (read_step, write_step) in [(1usize, 7usize), (4096, 4096)] {
@@ -60,7 +60,7 @@ fn answers_scripts(rt: HostRuntime) -> Result<(), Fail> {
             let mut output = MemSink::new(rt.alloc(), 4096, write_step, Calls::none())?;
             let status = run_word(&rt, "replay", &mut input, &mut output)?;
             assert_eq!(rt; output.bytes(), answers.as_bytes(), "to {script}");
-            let is_refused = answers == "config toml 0\n";
+            let is_refused = answers.starts_with("config");
             let expected = if is_refused {
                 Status::BadConfig
             } else {
@@ -68,6 +68,27 @@ fn answers_scripts(rt: HostRuntime) -> Result<(), Fail> {
             };
             assert_eq!(rt; status, expected, "to {script}");
         }
+    }
+    Ok(())
+}
+
+/// The newest versions of a column, as many as a configuration keeps.
+#[test]
+fn keeps_versions(rt: HostRuntime) -> Result<(), Fail> {
+    let newest = "m 1\nm 2\nat 2\nr1 a:x: @2 =2\nend 2\n";
+    let both = "m 1\nm 2\nat 2\nr1 a:x: @2 =2\nr1 a:x: @1 =1\nend 2\n";
+    for (max, answers) in [("1", newest), ("2", both), ("0", "config field 1\n")] {
+        let mut input = ByteText::of(
+            rt.alloc(),
+            b"[[iterator]]\nname = \"vers\"\npriority = 20\nkind = \"versions\"\nmax = ",
+        )?;
+        input.append(max.as_bytes())?;
+        input.append(b"\nscopes = [\"scan\"]\n%%\nm r1 +a:x:=1\nm r1 +a:x:=2\nscan\n")?;
+        let mut input = MemSource::new(input, 4096, Calls::none());
+        let mut output = MemSink::new(rt.alloc(), 4096, 4096, Calls::none())?;
+        let status = run_word(&rt, "replay", &mut input, &mut output)?;
+        assert_eq!(rt; output.bytes(), answers.as_bytes(), "with max {max}");
+        assert_eq!(rt; status == Status::Done, max != "0");
     }
     Ok(())
 }

@@ -1,0 +1,4 @@
+pub mod Views
+pub mod Ordering
+pub mod Repeats
+pub mod Examples

@@ -1,0 +1,62 @@
+-- The configuration that a document is, or the first rule that it breaks. All of this is this project's own; the text is TOML.
+use Rattle.std.specs.Prelude.{ℕ, ◌+◌, nat_le, if◌then◌else◌, List, [], ◌∷◌, Option, Some, None, codes, Result, Ok, Err}
+use Rattle.std.specs.Str.{is_utf8}
+use Rattle.toml.specs.Data.{Data, Items, no_items, item, Members, as_array, get_member}
+use Rattle.toml.specs.Parse.{parse_document}
+use Rattle.iter_config.specs.Faults.{Fault, fault}
+use Rattle.iter_config.specs.Fields.{keys_within}
+use Rattle.iter_config.specs.Iterators.{iterators_from}
+use Rattle.iter_config.specs.Order.{first_repeat, in_priority_order, same_name, same_priority}
+use Rattle.iter_config.specs.declared.iter_spec.IterSpec.{IterSpec}
+use Rattle.iter_config.specs.declared.error.Rule.{Rule}
+use Rattle.iter_config.specs.declared.error.Rule.TheVariants.{Toml, Field, Name, Priority}
+
+-- the document of some bytes, which have to be UTF-8
+abbrev pub document_of : List ℕ → Option Members
+document_of bytes = if is_utf8 bytes then parse_document bytes else None
+
+-- how many items an array has
+abbrev pub count_items : Items → ℕ
+count_items no_items = 0
+count_items (item d ds) = count_items ds + 1
+
+-- the iterators of what should be an array of at most 16
+abbrev pub of_array : Option Items → Result (List IterSpec) Fault
+of_array None = Err (fault Field 0)
+of_array (Some ds) = if nat_le (count_items ds) 16 then iterators_from 1 ds else Err (fault Field 0)
+
+-- the iterators of what stands under the one key, if anything does
+abbrev pub of_value : Option Data → Result (List IterSpec) Fault
+of_value None = Ok []
+of_value (Some d) = of_array (as_array d)
+
+-- the iterators of a document, as they stand there: `iterator` is its one key
+unfoldable pub iterators_of : Members → Result (List IterSpec) Fault
+iterators_of ms =
+    if keys_within (codes "iterator" ∷ []) ms then of_value (get_member (codes "iterator") ms) else Err (fault Field 0)
+
+-- a rule is broken by the iterator of this number, or by none and then the next rules follow
+abbrev pub broken_by : Rule → Option ℕ → Result (List IterSpec) Fault → Result (List IterSpec) Fault
+broken_by rule None next = next
+broken_by rule (Some n) next = Err (fault rule n)
+
+-- the configuration of iterators: no two share a name or a priority
+unfoldable pub accepted : List IterSpec → Result (List IterSpec) Fault
+accepted specs =
+    broken_by Name (first_repeat same_name [] 1 specs)
+    (broken_by Priority (first_repeat same_priority [] 1 specs)
+    (Ok (in_priority_order specs)))
+
+-- the configuration of iterators that were read
+abbrev pub config_from : Result (List IterSpec) Fault → Result (List IterSpec) Fault
+config_from (Ok specs) = accepted specs
+config_from (Err f) = Err f
+
+-- the configuration of a document, if there is one
+abbrev pub config_in : Option Members → Result (List IterSpec) Fault
+config_in None = Err (fault Toml 0)
+config_in (Some ms) = config_from (iterators_of ms)
+
+-- the configuration of some bytes: its iterators in priority order
+abbrev pub config_of : List ℕ → Result (List IterSpec) Fault
+config_of bytes = config_in (document_of bytes)

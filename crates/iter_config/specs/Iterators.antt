@@ -1,0 +1,54 @@
+-- The iterators that tables describe. The fields are this project's own.
+use Rattle.std.specs.Prelude.{ℕ, ◌+◌, ◌≤◌, if◌then◌else◌, List, [], ◌∷◌, Option, Some, None, codes, Result, Ok, Err}
+use Rattle.std.specs.Str.{bytes_eq}
+use Rattle.toml.specs.Data.{Data, Items, no_items, item, Members, as_str, as_table, get_member}
+use Rattle.iter_config.specs.Faults.{◌>>=◌, Fault, fault}
+use Rattle.iter_config.specs.Fields.{keys_within, name_in, number_in, scopes_in}
+use Rattle.iter_config.specs.declared.iter_spec.Kind.{Kind}
+use Rattle.iter_config.specs.declared.iter_spec.Kind.TheVariants.{Versions}
+use Rattle.iter_config.specs.declared.iter_spec.IterSpec.{IterSpec}
+use Rattle.iter_config.specs.declared.error.Rule.TheVariants.{Field}
+
+-- the fields that each iterator has
+abbrev pub shared_keys : List (List ℕ)
+shared_keys = codes "name" ∷ codes "priority" ∷ codes "kind" ∷ codes "scopes" ∷ []
+
+-- `max` versions of each column, and no other field
+unfoldable pub versions_of : Members → Option Kind
+versions_of ms = do
+  max ← get_member (codes "max") ms >>= number_in 1 1000
+  if keys_within (codes "max" ∷ shared_keys) ms then Some (Versions max) else None
+
+-- what the iterator of a table does, by the word of its kind
+unfoldable pub kind_of : List ℕ → Members → Option Kind
+kind_of word ms = if bytes_eq word (codes "versions") then versions_of ms else None
+
+-- the iterator that a table describes
+unfoldable pub iterator_of : Data → Option IterSpec
+iterator_of d = do
+  ms ← as_table d
+  name ← get_member (codes "name") ms >>= name_in
+  priority ← get_member (codes "priority") ms >>= number_in 1 2147483647
+  scopes ← get_member (codes "scopes") ms >>= scopes_in
+  word ← get_member (codes "kind") ms >>= as_str
+  kind ← kind_of word ms
+  Some (record { name = name; priority = priority; kind = kind; scopes = scopes })
+
+-- an iterator in front of others, or the fault of the others
+abbrev pub in_front : IterSpec → Result (List IterSpec) Fault → Result (List IterSpec) Fault
+in_front spec (Ok specs) = Ok (spec ∷ specs)
+in_front spec (Err f) = Err f
+
+-- the iterator number n in front of the others; if its table describes none, that is the first fault
+abbrev pub numbered : ℕ → Option IterSpec → Result (List IterSpec) Fault → Result (List IterSpec) Fault
+numbered n None rest = Err (fault Field n)
+numbered n (Some spec) rest = in_front spec rest
+
+-- the iterators of an array, numbered from n
+abbrev pub iterators_from : ℕ → Items → Result (List IterSpec) Fault
+iterators_from n no_items = Ok []
+iterators_from n (item d ds) = numbered n (iterator_of d) (iterators_from (n + 1) ds)
+
+-- the numbers of a kind are within its fields' limits
+abbrev pub IsLimited : Kind → Type 0
+IsLimited (Versions max) = (1 ≤ max) × (max ≤ 1000)

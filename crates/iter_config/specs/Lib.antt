@@ -1,0 +1,6 @@
+pub mod Faults
+pub mod Fields
+pub mod Iterators
+pub mod Order
+pub mod Document
+pub mod Stages
