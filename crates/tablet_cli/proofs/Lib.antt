@@ -1,3 +1,4 @@
 mod Bounded
+mod Examples
 mod Numbered
 mod Scans

@@ -1,4 +1,4 @@
-use Rattle.std.proofs.Common.{◌∙◌, sym, subst, ◌≤◌}
+use Rattle.std.proofs.Common.{◌∙◌, sym}
 use Rattle.tablet_cli.proofs.Scans.{stages-all, stages-more}
 use Rattle.tablet_cli.proofs.scan.stacked.Goals as goal
 
