@@ -1,0 +1,37 @@
+-- The entries of the tests are as a combiner needs them.
+use Rattle.std.proofs.Common.{◌≡◌, true, false, List, [], refl, sym, subst}
+use Rattle.tablet_model.specs.Cell.{Cell}
+use Rattle.tablet_model.specs.Reductions.{Reduction}
+use Rattle.tablet_model.specs.Order.{above, cell_cmp, key_cmp, time_cmp, column_cmp, same_column}
+use Rattle.tablet_model.specs.Sorted.{put, sorted}
+use Rattle.tablet_model.specs.Markers.{marker_beside}
+use Rattle.tablet_model.specs.Reading.{AreInFront}
+use Rattle.number_values.specs.declared.op.Op.{Op}
+use Rattle.number_values.specs.declared.op.Encoding.TheVariants as encoding
+use Rattle.number_values.specs.declared.op.Op.TheVariants as op
+use Rattle.number_values.specs.Numbers.{number_reduction}
+use Rattle.combiners.specs.declared.columns.ColumnName.{ColumnName}
+use Rattle.combiners.specs.Gathers.{AreRead}
+use Rattle.combiners.specs.Listed.{column_listed}
+use Rattle.combiners.specs.Examples.{example_names, example_cells, AreNumbers}
+
+pub example_sorted : sorted above example_cells ≡ example_cells
+unfolding sorted put above cell_cmp key_cmp time_cmp column_cmp
+example_sorted = refl
+
+pub example_sums : AreNumbers op.Sum example_names example_cells
+unfolding AreNumbers
+example_sums = ((λ h. refl), ((λ h. refl), ((λ h. refl), ((λ h. refl), ((λ h. let no : true ≡ false = h in cc), ((λ h. refl), ((λ h. refl), ((λ h. refl), ((λ h. refl), tt)))))))))
+
+pub example_least : AreNumbers op.Min example_names example_cells
+unfolding AreNumbers
+example_least = ((λ h. refl), ((λ h. refl), ((λ h. refl), ((λ h. refl), ((λ h. let no : true ≡ false = h in cc), ((λ h. refl), ((λ h. refl), ((λ h. refl), ((λ h. refl), tt)))))))))
+
+pub example_front : AreInFront (column_listed example_names) [] example_cells
+unfolding AreInFront marker_beside same_column column_cmp
+example_front = ((λ d l. refl), ((λ d l. refl), ((λ d l. refl), ((λ d l. refl), ((λ d l. refl), ((λ d l. refl), ((λ d l. refl), ((λ d l. refl), ((λ d l. refl), tt)))))))))
+
+-- what is read stays read by equal names, by an equal reduction and in equal entries
+pub numbers_read : (o : Op) (names own : List ColumnName) (r : Reduction) (all cells : List Cell) → names ≡ own → r ≡ number_reduction o encoding.String → all ≡ cells → AreNumbers o own cells → AreRead names r all
+unfolding AreNumbers
+numbers_read o names own r all cells n e a h = subst (λ f. AreRead f r all) (sym n) (subst (λ r. AreRead own r all) (sym e) (subst (λ l. AreRead own (number_reduction o encoding.String) l) (sym a) h))

@@ -1,0 +1,4 @@
+pub mod OfColumns
+pub mod Passes
+pub mod Streams
+pub mod ExampleRows

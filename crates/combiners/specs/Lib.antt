@@ -1,0 +1,8 @@
+pub mod Listed
+pub mod Gathers
+pub mod CombineLaws
+pub mod CombineStages
+pub mod CombineParts
+pub mod Joins
+pub mod LongParts
+pub mod Examples
