@@ -4,6 +4,8 @@ pub mod RowBounds
 pub mod Ranges
 pub mod ColumnParts
 pub mod BoundParts
+pub mod Listed
+pub mod FileNumbers
 pub mod Mutations
 pub mod Escape
 pub mod Unescape

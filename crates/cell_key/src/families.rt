@@ -47,7 +47,7 @@ impl Families {
     {
         match &self.names {
             None => true,
-            Some(names) => is_among(names.as_slice(), family),
+            Some(names) => names.has(family),
         }
     }
 
@@ -58,8 +58,24 @@ impl Families {
         let Some(names) = &self.names else {
             return Ok(Families::all());
         };
-        let names = copied_names(alloc, names.as_slice())?;
+        let names = names.copy(alloc)?;
         Ok(Families { names: Some(names) })
+    }
+}
+
+impl Items<ByteText> {
+    /// An equal list.
+    pub fn copy(&self, alloc: Global) -> Result<Names, NoMemory>
+        ensures { IfOk result (λ names. names ≡ self.now) }
+    {
+        copied_names(alloc, self.as_slice())
+    }
+
+    /// Whether the name is one of them. It takes no memory.
+    pub fn has(&self, name: &[u8]) -> bool
+        ensures { result ≡ has_family (Some self.now) name.now }
+    {
+        self.as_slice().iter().any(|own| own.bytes() == name)
     }
 }
 
@@ -71,10 +87,4 @@ fn copied_names(alloc: Global, names: &[ByteText]) -> Result<Names, NoMemory>
         list.push(ByteText::of(alloc, name.bytes())?)?;
     }
     Ok(list)
-}
-
-fn is_among(names: &[ByteText], family: &[u8]) -> bool
-    ensures { result ≡ has_family (Some names.now) family.now }
-{
-    names.iter().any(|name| name.bytes() == family)
 }

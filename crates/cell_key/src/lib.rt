@@ -2,12 +2,14 @@
 #![tactic(auto)]
 
 mod column_buf;
+mod column_name;
 mod cuts;
 mod entries;
 mod entry;
 mod escape_laws;
 mod escaping;
 mod families;
+mod file_ids;
 mod items;
 mod key;
 mod key_ref;
@@ -21,12 +23,14 @@ mod tests;
 mod unescaping;
 
 pub use column_buf::ColumnBuf;
+pub use column_name::{ColumnName, Columns};
 pub use cuts::{lies_before, lies_behind};
 pub use entries::Entries;
 pub use entry::Entry;
 pub use escape_laws::unescape_escape;
 pub use escaping::{append_escape, escape};
 pub use families::{Families, Names};
+pub use file_ids::FileIds;
 pub use items::{ByteText, Items};
 pub use key::{Key, KeyError, MAX_KEY_PART, Part};
 pub use key_ref::{EntryRef, KeyRef};

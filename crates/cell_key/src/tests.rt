@@ -190,6 +190,36 @@ fn families_are_all_or_some(rt: HostRuntime) -> Result<(), Fail> {
     Ok(())
 }
 
+#[test]
+fn columns_are_listed_by_their_names(rt: HostRuntime) -> Result<(), Fail> {
+    let mut columns = Columns::new(rt.alloc());
+    columns.push(ColumnName {
+        family: ByteText::of(rt.alloc(), b"f")?,
+        qualifier: None,
+    })?;
+    columns.push(ColumnName {
+        family: ByteText::of(rt.alloc(), b"g")?,
+        qualifier: Some(ByteText::of(rt.alloc(), b"q")?),
+    })?;
+    let columns = columns.copy(rt.alloc())?;
+    assert!(rt; columns.lists(b"f", b"") && columns.lists(b"f", b"q"));
+    assert!(rt; columns.lists(b"g", b"q") && !columns.lists(b"g", b""));
+    assert!(rt; !columns.lists(b"q", b"f"));
+    Ok(())
+}
+
+#[test]
+fn file_numbers_ascend(rt: HostRuntime) -> Result<(), Fail> {
+    let mut ids = FileIds::new(rt.alloc());
+    for id in [7, 2, u64::MAX, 7, 5] {
+        ids.insert(id)?;
+    }
+    assert_eq!(rt; ids.as_slice(), [2, 5, 7, u64::MAX].as_slice());
+    assert_eq!(rt; (ids.len(), ids.get(1)), (4, 5));
+    assert!(rt; ids.has(7) && !ids.has(6));
+    Ok(())
+}
+
 fn entry_ref<'a>(key: KeyRef<'a>, value: &'a [u8]) -> EntryRef<'a> {
     EntryRef { key, value }
 }

@@ -10,9 +10,9 @@ use Rattle.number_values.specs.declared.op.Op.{Op}
 use Rattle.number_values.specs.declared.op.Encoding.TheVariants as encoding
 use Rattle.number_values.specs.declared.op.Op.TheVariants as op
 use Rattle.number_values.specs.Numbers.{number_reduction}
-use Rattle.combiners.specs.declared.columns.ColumnName.{ColumnName}
+use Rattle.cell_key.specs.declared.column_name.ColumnName.{ColumnName}
 use Rattle.combiners.specs.Gathers.{AreRead}
-use Rattle.combiners.specs.Listed.{column_listed}
+use Rattle.cell_key.specs.Listed.{column_listed}
 use Rattle.combiners.specs.Examples.{example_names, example_cells, AreNumbers}
 
 pub example_sorted : sorted above example_cells ≡ example_cells

@@ -15,8 +15,8 @@ use Rattle.tablet_model.proofs.OneColumn.{InColumn, both_in}
 use Rattle.tablet_model.proofs.Cursors.{column_between}
 use Rattle.tablet_model.proofs.Combines.{NoMarkers, values, all_both, combined_none}
 use Rattle.tablet_model.proofs.CombineSteps.{NoPuts, combined_marker, combined_unlisted, combined_column}
-use Rattle.combiners.specs.declared.columns.ColumnName.{ColumnName}
-use Rattle.combiners.specs.Listed.{column_listed, is_listed, listed_of_columns}
+use Rattle.cell_key.specs.declared.column_name.ColumnName.{ColumnName}
+use Rattle.cell_key.specs.Listed.{column_listed, is_listed, listed_of_columns}
 use Rattle.combiners.specs.Gathers.{combined_from, begun, stands}
 use Rattle.combiners.proofs.OfColumns.{same_key}
 
@@ -100,7 +100,7 @@ module _ (names : List ColumnName) (r : Reduction) where
 
   listed_is : (e : Cell) → stands names e ≡ false → column_listed names e ≡ true
   unfolding column_listed
-  listed_is e h = (stand_parts e.key.deleted (is_listed names (column_of e.key)) h).1
+  listed_is e h = (stand_parts e.key.deleted (is_listed names e.key.family e.key.qualifier) h).1
 
   -- a column that is left is shown
   shown_column : (e : Cell) (us list : List Cell) (v : List ℤ) → stands names e ≡ false → InColumn e us → NoMarkers us → v ≡ join_from r (r.value e.value) (values us) → NoPuts e list
@@ -108,7 +108,7 @@ module _ (names : List ColumnName) (r : Reduction) where
   unfolding reduced
   shown_column e us list v s ins plain h none =
       ap (λ v. record { key = e.key; value = r.text v } ∷ combined (column_listed names) r list) h
-      ∙ sym (combined_column (column_listed names) (listed_of_columns names) r e us list (listed_is e s) (same_column_equiv.refl e, ins) ((stand_parts e.key.deleted (is_listed names (column_of e.key)) s).0, plain) none)
+      ∙ sym (combined_column (column_listed names) (listed_of_columns names) r e us list (listed_is e s) (same_column_equiv.refl e, ins) ((stand_parts e.key.deleted (is_listed names e.key.family e.key.qualifier) s).0, plain) none)
 
   -- the first entry, where no column is held
   pass_first : (e : Cell) (es : List Cell) → Ascends above (e ∷ es) → IsPass es → combined_from names r None (e ∷ es) ≡ combined (column_listed names) r (e ∷ es)
@@ -120,12 +120,12 @@ module _ (names : List ColumnName) (r : Reduction) where
 
       stays : (d : Bool) → e.key.deleted ≡ d → stands names e ≡ true → e ∷ combined (column_listed names) r es ≡ combined (column_listed names) r (e ∷ es)
       stays true d h = sym (combined_marker (column_listed names) r e es d)
-      stays false d h = sym (combined_unlisted (column_listed names) (listed_of_columns names) r e es (unlisted e.key.deleted (is_listed names (column_of e.key)) h d))
+      stays false d h = sym (combined_unlisted (column_listed names) (listed_of_columns names) r e es (unlisted e.key.deleted (is_listed names e.key.family e.key.qualifier) h d))
 
       go : (b : Bool) → stands names e ≡ b → cond b (e ∷ combined_from names r None es) (combined_from names r (begun r e) es) ≡ combined (column_listed names) r (e ∷ es)
       go true h = ap (λ l. e ∷ l) ih.0 ∙ stays e.key.deleted refl h
       go false h =
-          ap (λ k. combined_from names r (Some (record { key = k; value = r.value e.value })) es) (same_key e.key (stand_parts e.key.deleted (is_listed names (column_of e.key)) h).0)
+          ap (λ k. combined_from names r (Some (record { key = k; value = r.value e.value })) es) (same_key e.key (stand_parts e.key.deleted (is_listed names e.key.family e.key.qualifier) h).0)
           ∙ ih.1 e [] (r.value e.value) h tt tt refl up
 
   -- the first entry behind a held column

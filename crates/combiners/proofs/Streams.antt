@@ -17,8 +17,8 @@ use Rattle.tablet_model.proofs.Sums.{all_weaker, all_filter, Ascends-filter}
 use Rattle.tablet_model.proofs.CutLemmas.{before_down, key_le, behind-GoesUp}
 use Rattle.tablet_model.proofs.Seeks.{from_first_is, filter_both, filter_same, wide_before}
 use Rattle.tablet_model.proofs.Risings.{Ascends-combined}
-use Rattle.combiners.specs.declared.columns.ColumnName.{ColumnName}
-use Rattle.combiners.specs.Listed.{column_listed, is_listed, listed_of_columns}
+use Rattle.cell_key.specs.declared.column_name.ColumnName.{ColumnName}
+use Rattle.cell_key.specs.Listed.{column_listed, is_listed, listed_of_columns}
 use Rattle.combiners.specs.CombineLaws.{combined_bounded}
 use Rattle.combiners.specs.Gathers.{Held, combined_from, AreRead, joins, added, begun, stands, up_to}
 use Rattle.combiners.proofs.OfColumns.{same_key, whole_column, equal_columns}
@@ -93,11 +93,11 @@ module _ (names : List ColumnName) (r : Reduction) (q : CellKey → Bool) where
     where
       passes : (s : Bool) → stands names e ≡ s → q e.key ≡ true → from_first (λ e. q e.key) (cond s (e ∷ combined_from names r None es) (combined_from names r (begun r e) es)) ≡ cond s (e ∷ combined_from names r None es) (combined_from names r (begun r e) es)
       passes true m k = ap (λ b. cond b (e ∷ combined_from names r None es) (from_first (λ e. q e.key) (combined_from names r None es))) k
-      passes false m k = from_held (record { key = record e.key { deleted = false }; value = r.value e.value }) es (ap q (same_key e.key (stand_parts e.key.deleted (is_listed names (column_of e.key)) m).0) ∙ k)
+      passes false m k = from_held (record { key = record e.key { deleted = false }; value = r.value e.value }) es (ap q (same_key e.key (stand_parts e.key.deleted (is_listed names e.key.family e.key.qualifier) m).0) ∙ k)
 
       drops : (s : Bool) → stands names e ≡ s → q e.key ≡ false → from_first (λ e. q e.key) (cond s (e ∷ combined_from names r None es) (combined_from names r (begun r e) es)) ≡ combined_from names r None (from_first (λ e. q e.key) es)
       drops true m k = ap (λ b. cond b (e ∷ combined_from names r None es) (from_first (λ e. q e.key) (combined_from names r None es))) k ∙ i
-      drops false m k = j (stand_parts e.key.deleted (is_listed names (column_of e.key)) m).0 k
+      drops false m k = j (stand_parts e.key.deleted (is_listed names e.key.family e.key.qualifier) m).0 k
 
       go : (b : Bool) → q e.key ≡ b → from_first (λ e. q e.key) (combined_from names r None (e ∷ es)) ≡ combined_from names r None (cond b (e ∷ es) (from_first (λ e. q e.key) es))
       go true k = passes (stands names e) refl k

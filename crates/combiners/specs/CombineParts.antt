@@ -7,7 +7,7 @@ use Rattle.tablet_model.specs.Sorted.{Ascends}
 use Rattle.tablet_model.specs.Bounds.{AreEntries}
 use Rattle.tablet_model.specs.Reductions.{Reduction}
 use Rattle.tablet_model.proofs.Risings.{Ascends-combined}
-use Rattle.combiners.specs.Listed.{column_listed, listed_of_columns}
+use Rattle.cell_key.specs.Listed.{column_listed, listed_of_columns}
 use Rattle.combiners.specs.CombineLaws.{combined_bounded}
 use Rattle.combiners.specs.CombineStages.{combine_cells, combine_left, combine_steady, CombineFits}
 use Rattle.combiners.specs.declared.combine_iter.CombineIter.{CombineIter}

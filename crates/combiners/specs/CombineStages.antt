@@ -6,7 +6,7 @@ use Rattle.tablet_model.specs.Cuts.{is_before}
 use Rattle.tablet_model.specs.Combines.{combined}
 use Rattle.tablet_model.specs.Reading.{AreInFront}
 use Rattle.tablet_model.specs.Reductions.{Reduction}
-use Rattle.combiners.specs.Listed.{column_listed}
+use Rattle.cell_key.specs.Listed.{column_listed}
 use Rattle.combiners.specs.Gathers.{combined_from, AreRead, held_of, is_whole, is_settled, up_to}
 use Rattle.combiners.specs.declared.stage.CombineStage.{CombineStage}
 

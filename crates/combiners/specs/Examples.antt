@@ -5,7 +5,7 @@ use Rattle.number_values.specs.declared.op.Op.{Op}
 use Rattle.number_values.specs.declared.op.Encoding.TheVariants as encoding
 use Rattle.number_values.specs.Numbers.{number_reduction}
 use Rattle.combiners.specs.Gathers.{AreRead}
-use Rattle.combiners.specs.declared.columns.ColumnName.{ColumnName}
+use Rattle.cell_key.specs.declared.column_name.ColumnName.{ColumnName}
 
 -- a key of no visibility
 abbrev pub example_key : List ℕ → List ℕ → List ℕ → ℤ → Bool → CellKey

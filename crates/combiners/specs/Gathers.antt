@@ -4,8 +4,8 @@ use Rattle.std.specs.List.{AllByRecursion}
 use Rattle.tablet_model.specs.Cell.{Cell, CellKey, Column, column_of}
 use Rattle.tablet_model.specs.Columns.{is_column, with_time}
 use Rattle.tablet_model.specs.Reductions.{Reduction}
-use Rattle.combiners.specs.Listed.{is_listed}
-use Rattle.combiners.specs.declared.columns.ColumnName.{ColumnName}
+use Rattle.cell_key.specs.Listed.{is_listed}
+use Rattle.cell_key.specs.declared.column_name.ColumnName.{ColumnName}
 
 -- a column whose values are being joined: its newest key, and their join so far
 pub record Held : Type 0 where
@@ -33,7 +33,7 @@ shown r (Some held) list = record { key = held.key; value = r.text held.value } 
 
 -- an entry that stays as it is: a marker, or of a column that is not listed
 abbrev pub stands : List ColumnName → Cell → Bool
-stands names e = e.key.deleted || not (is_listed names (column_of e.key))
+stands names e = e.key.deleted || not (is_listed names e.key.family e.key.qualifier)
 
 -- what the pass makes of what is left, where a column may be held
 abbrev pub combined_from : List ColumnName → Reduction → Option Held → List Cell → List Cell
@@ -63,7 +63,7 @@ is_whole true (Some c) (Some v) = true
 -- a kept column is listed
 abbrev pub is_of : List ColumnName → Option Column → Bool
 is_of names None = true
-is_of names (Some c) = is_listed names c
+is_of names (Some c) = is_listed names c.family c.qualifier
 
 -- the first entry that is left, if there is one, is not to be joined
 abbrev pub is_settled : List ColumnName → Option Held → List Cell → Bool

@@ -1,4 +1,3 @@
-pub mod Listed
 pub mod Gathers
 pub mod CombineLaws
 pub mod CombineStages

@@ -1,8 +1,7 @@
-use crate::columns::Columns;
 use crate::reducer::Reducer;
 use crate::stage::CombineStage;
 use crate::steps::{combine_next, combine_seek, combine_top};
-use cell_key::{EntryRef, NoMemory, Range};
+use cell_key::{Columns, EntryRef, NoMemory, Range};
 use iter_contract::SortedSource;
 use std::alloc::Global;
 use std::sync::Arc;
@@ -21,7 +20,7 @@ impl<S: SortedSource, R: Reducer> CombineIter<S, R> {
     ghost use Rattle.tablet_model.specs.Combines.{combined};
     ghost use Rattle.tablet_model.specs.Reading.{AreInFront};
     ghost use Rattle.iter_contract.specs.Copies.{IsCopy};
-    ghost use Rattle.combiners.specs.Listed.{column_listed};
+    ghost use Rattle.cell_key.specs.Listed.{column_listed};
     ghost use Rattle.combiners.specs.Gathers.{AreRead};
     ghost use Rattle.combiners.specs.CombineParts.{combine_cells_of, combine_rest, combine_steady_of, combine_valid};
 

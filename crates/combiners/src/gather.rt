@@ -8,9 +8,8 @@ ghost use Rattle.cell_key.specs.Ranges.{cut_of};
 ghost use Rattle.cell_key.specs.Views.{key_of, cell_of};
 ghost use Rattle.combiners.specs.Gathers.{combined_from, AreRead, held_of, is_whole, is_of, is_settled};
 
-use crate::columns::{Columns, lists};
 use crate::reducer::Reducer;
-use cell_key::{Bound, ColumnBuf, EntryRef, KeyRef, NoMemory, lies_behind};
+use cell_key::{Bound, ColumnBuf, Columns, EntryRef, KeyRef, NoMemory, lies_behind};
 use iter_contract::SortedSource;
 
 /// Whether the key is of the kept column.
@@ -87,7 +86,7 @@ fn settle<S: SortedSource, R: Reducer>(
     let Some(entry) = source.top() else {
         return Ok(false);
     };
-    if entry.key.deleted || !lists(columns, entry.key) {
+    if entry.key.deleted || !columns.lists(entry.key.family, entry.key.qualifier) {
         return Ok(false);
     }
     reducer.start(entry.value)?;

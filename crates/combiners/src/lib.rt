@@ -1,7 +1,6 @@
 // Combiners: the values of a listed column become one, over any source and by any reducer.
 #![tactic(auto)]
 
-mod columns;
 mod combine_iter;
 mod gather;
 mod long_reducer;
@@ -9,7 +8,6 @@ mod reducer;
 mod stage;
 mod steps;
 
-pub use columns::{ColumnName, Columns, lists};
 pub use combine_iter::CombineIter;
 pub use long_reducer::LongReducer;
 pub use reducer::Reducer;

@@ -1,9 +1,8 @@
 ghost use Rattle.std.specs.Prelude.{◌≡◌, false, IfOk};
 ghost use Rattle.std.specs.Arc.{arc_value};
 
-use crate::columns::Columns;
 use crate::reducer::Reducer;
-use cell_key::{Bound, ColumnBuf, NoMemory, Range, RangeBuf};
+use cell_key::{Bound, ColumnBuf, Columns, NoMemory, Range, RangeBuf};
 use std::alloc::Global;
 use std::sync::Arc;
 

@@ -6,11 +6,13 @@ ghost use Rattle.tablet_model.specs.Bounds.{KeyBounds};
 ghost use Rattle.tablet_model.specs.Reading.{AreInFront};
 ghost use Rattle.cell_key.specs.Views.{key_of};
 ghost use Rattle.cell_key.specs.RowBounds.{HasShortRow};
-ghost use Rattle.combiners.specs.Listed.{column_listed};
+ghost use Rattle.cell_key.specs.Listed.{column_listed};
 ghost use Rattle.combiners.specs.Examples.{example_key, example_names, example_cells, AreNumbers};
 
 use super::*;
-use cell_key::{Bound, ByteText, Entries, Entry, EntryRef, Key, KeyRef, Range};
+use cell_key::{
+    Bound, ByteText, ColumnName, Columns, Entries, Entry, EntryRef, Key, KeyRef, Range,
+};
 use iter_contract::{SortedSource, VecSource};
 use number_values::{Encoding, Op};
 use std::alloc::Global;

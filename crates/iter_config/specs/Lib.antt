@@ -3,4 +3,5 @@ pub mod Fields
 pub mod Iterators
 pub mod Order
 pub mod Document
+pub mod Predicates
 pub mod Stages

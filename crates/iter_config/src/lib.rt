@@ -7,6 +7,7 @@ mod error;
 mod fields;
 mod iter_spec;
 mod iterators;
+mod predicate;
 #[cfg(test)]
 mod tests;
 
@@ -14,3 +15,4 @@ pub use config::Config;
 pub use document::read_config;
 pub use error::{ConfigError, Rule};
 pub use iter_spec::{IterSpec, Kind, Scopes};
+pub use predicate::Predicate;

@@ -3,7 +3,7 @@ use Rattle.tablet_model.specs.Order.{above}
 use Rattle.tablet_model.specs.Sorted.{sorted}
 use Rattle.tablet_model.specs.Reading.{AreInFront}
 use Rattle.number_values.specs.declared.op.Op.TheVariants as op
-use Rattle.combiners.specs.Listed.{column_listed}
+use Rattle.cell_key.specs.Listed.{column_listed}
 use Rattle.combiners.specs.Examples.{example_names, AreNumbers}
 use Rattle.combiners.proofs.ExampleRows.{example_sorted, example_sums, example_least, example_front}
 use Rattle.combiners.proofs.tests.entries.Goals as goal

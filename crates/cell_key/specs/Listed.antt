@@ -3,30 +3,31 @@ use Rattle.std.specs.Prelude.{ℕ, Bool, true, ◌&&◌, List, Option, Some, Non
 use Rattle.std.proofs.Common.{sym, ap}
 use Rattle.std.specs.List.{list_any}
 use Rattle.std.specs.Cmp.Lexicographic.{pointwise}
-use Rattle.tablet_model.specs.Cell.{Cell, Column, column_of}
+use Rattle.tablet_model.specs.Cell.{Cell, column_of}
 use Rattle.tablet_model.specs.Accepted.{IsOfColumns}
 use Rattle.tablet_model.proofs.OneColumn.{columns_tie}
 use Rattle.tablet_model.proofs.Orders.{exact_columns}
-use Rattle.combiners.specs.declared.columns.ColumnName.{ColumnName}
+use Rattle.cell_key.specs.declared.column_name.ColumnName.{ColumnName}
 
 -- any qualifier, or this one
 abbrev pub has_qualifier : Option (List ℕ) → List ℕ → Bool
 has_qualifier None qualifier = true
 has_qualifier (Some own) qualifier = pointwise nat_eq own qualifier
 
--- whether a name is that of a column
-abbrev pub is_named : Column → ColumnName → Bool
-is_named c name = has_qualifier name.qualifier c.qualifier && pointwise nat_eq name.family c.family
+-- whether a name is that of the columns of a family and a qualifier
+abbrev pub is_named : List ℕ → List ℕ → ColumnName → Bool
+is_named family qualifier name = has_qualifier name.qualifier qualifier && pointwise nat_eq name.family family
 
--- whether a column has one of these names
-abbrev pub is_listed : List ColumnName → Column → Bool
-is_listed names c = list_any (is_named c) names
+-- whether one of these names is
+abbrev pub is_listed : List ColumnName → List ℕ → List ℕ → Bool
+is_listed names family qualifier = list_any (is_named family qualifier) names
 
 -- whether an entry's column has one of these names
 unfoldable pub column_listed : List ColumnName → Cell → Bool
-column_listed names e = is_listed names (column_of e.key)
+column_listed names e = is_listed names e.key.family e.key.qualifier
 
 -- this looks at the column alone
 pub listed_of_columns : (names : List ColumnName) → IsOfColumns (column_listed names)
 unfolding column_listed
-listed_of_columns names c e h = ap (is_listed names) (sym (exact_columns (column_of c.key) (column_of e.key) (columns_tie c e h)))
+listed_of_columns names c e h =
+    ap (λ k. is_listed names k.family k.qualifier) (sym (exact_columns (column_of c.key) (column_of e.key) (columns_tie c e h)))

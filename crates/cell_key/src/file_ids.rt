@@ -1,0 +1,73 @@
+ghost use Rattle.std.specs.Prelude.{◌≡◌, ◌<◌, [], Some, length, slice_get, OnOk};
+ghost use Rattle.cell_key.specs.FileNumbers.{has_number, with_number};
+
+use crate::no_memory::NoMemory;
+use std::alloc::Global;
+use std::marker::Model;
+
+/// Numbers of files, ascending and all different.
+#[derive(Drop)]
+pub struct FileIds {
+    ids: Vec<u64>,
+}
+
+impl Model for FileIds {
+    ghost use Rattle.std.specs.Prelude.{ℕ, List};
+    ghost use Rattle.cell_key.specs.FileNumbers.{AreAscending};
+
+    ghost Value = { List ℕ };
+
+    ghost view = { λ f. f.ids.items };
+
+    ghost invariant = { λ f. AreAscending f.ids.items };
+}
+
+impl FileIds {
+    /// No numbers. It takes no memory.
+    pub fn new(alloc: Global) -> FileIds
+        ensures { result ≡ [] }
+    {
+        FileIds {
+            ids: Vec::new(alloc),
+        }
+    }
+
+    /// Puts a number at its place, unless it is there.
+    pub fn insert(&mut self, id: u64) -> Result<(), NoMemory>
+        ensures { OnOk result (self.new ≡ with_number id self.old) }
+    {
+        if let Err(place) = self.ids.binary_search(&id) {
+            self.ids.insert(place, id)?;
+        }
+        Ok(())
+    }
+
+    /// How many numbers there are.
+    pub fn len(&self) -> usize
+        ensures { result ≡ length self.now }
+    {
+        self.ids.len()
+    }
+
+    /// Whether the number is among them. It takes no memory.
+    pub fn has(&self, id: u64) -> bool
+        ensures { result ≡ has_number self.now id }
+    {
+        self.ids.contains(&id)
+    }
+
+    /// The number at place `i`, counted from 0.
+    pub fn get(&self, i: usize) -> u64
+        requires { i < length self.now }
+        ensures { slice_get self.now i ≡ Some result }
+    {
+        self.ids[i]
+    }
+
+    /// The numbers.
+    pub fn as_slice(&self) -> &[u64]
+        ensures { result.now ≡ self.now }
+    {
+        self.ids.as_slice()
+    }
+}
