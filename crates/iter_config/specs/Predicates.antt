@@ -1,7 +1,7 @@
 -- What filters test, and the filters that they are. The tests of families, qualifiers, bytes and times are those of Accumulo's filters of
 -- these names; that of visibilities is this project's own.
-use Rattle.std.specs.Prelude.{ℕ, ℤ, Bool, true, false, not, ◌&&◌, ◌||◌, cond, List, [], ◌∷◌, Option, Some, None, nat_eq}
-use Rattle.std.specs.List.{starts_with}
+use Rattle.std.specs.Prelude.{ℕ, ℤ, Bool, true, false, not, ◌&&◌, ◌||◌, cond, List, [], ◌∷◌, Option, Some, None, length, take}
+use Rattle.std.specs.Str.{bytes_eq}
 use Rattle.std.specs.Ordering.{int_cmp, is_le, is_lt}
 use Rattle.tablet_model.specs.Cell.{Cell}
 use Rattle.tablet_model.specs.Families.{has_family}
@@ -20,10 +20,14 @@ abbrev pub is_up_to : Option (List ℕ) → List ℕ → Bool
 is_up_to None bytes = true
 is_up_to (Some to) bytes = is_lt (bytes_cmp bytes to)
 
+-- whether some bytes begin with a needle
+abbrev pub begins_with : List ℕ → List ℕ → Bool
+begins_with needle bytes = bytes_eq (take (length needle) bytes) needle
+
 -- whether a needle stands somewhere in some bytes
 unfoldable pub has_within : List ℕ → List ℕ → Bool
-has_within needle [] = starts_with nat_eq [] needle
-has_within needle (b ∷ bs) = starts_with nat_eq (b ∷ bs) needle || has_within needle bs
+has_within needle [] = begins_with needle []
+has_within needle (b ∷ bs) = begins_with needle (b ∷ bs) || has_within needle bs
 
 -- whether a needle stands in a part of an entry
 unfoldable pub has_needle : List ℕ → Cell → Bool

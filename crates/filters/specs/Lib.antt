@@ -1,0 +1,2 @@
+pub mod FilterStages
+pub mod FilterParts
