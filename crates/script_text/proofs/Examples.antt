@@ -1,15 +1,19 @@
 -- Worked lines, inputs and answers.
-use Rattle.std.proofs.Common.{◌≡◌, ℕ, ℤ, pos, negsuc, Bool, true, false, List, [], ◌∷◌, Option, Some, None, codes, refl}
+use Rattle.std.proofs.Common.{◌≡◌, ℕ, ℤ, pos, negsuc, Bool, true, false, List, [], ◌∷◌, Option, Some, None, codes, map, refl}
 use Rattle.std.specs.Fmt.{digits}
 use Rattle.tablet_model.specs.Cell.{Cell}
 use Rattle.cell_key.specs.declared.key.Part.TheVariants.{Updates}
 use Rattle.cell_key.specs.declared.mutation.Update.{Update}
 use Rattle.script_text.specs.Answers.{accepted_line, entry_line, refusal_line, scan_text}
-use Rattle.script_text.specs.Grammar.{delete_of, line_of, mutation_of, put_of, reading_of, scan_of, update_of}
+use Rattle.script_text.specs.Grammar.{compact_of, delete_of, fetch_of, line_of, mutation_of, open_of, put_of, reading_of, scan_of, session_line_of, store_line_of, update_of}
+use Rattle.script_text.specs.Numbers.{number_of}
+use Rattle.script_text.specs.Scans.{all_keys, bracketed, families_of, optional_row, range_of, rows_between, short_text}
+use Rattle.tablet_model.specs.Cuts.{Everything, BeforeRow, BehindRow}
+use Rattle.cell_key.specs.FileNumbers.{with_number}
 use Rattle.script_text.specs.Lines.{config_bytes, lines_of, script_lines}
 use Rattle.script_text.specs.declared.line.Line.{Line}
-use Rattle.script_text.specs.declared.line.Line.TheVariants.{Nothing, Mutate, Scan}
-use Rattle.script_text.specs.declared.refusal.Refusal.TheVariants.{Syntax, Bound}
+use Rattle.script_text.specs.declared.line.Line.TheVariants.{Nothing, Mutate, Scan, Open, Fetch, Renew, Drop, Close, Freeze, Flushed, Status, Compact, CompactAll, Finish}
+use Rattle.script_text.specs.declared.refusal.Refusal.TheVariants.{Syntax, Bound, InJob}
 
 -- ---- lines that are read
 
@@ -47,9 +51,39 @@ no_updates : line_of (codes "m r1") ≡ mutation (codes "r1") []
 unfolding reading_of mutation_of mutation
 no_updates = refl
 
-whole_scan : line_of (codes " scan\t") ≡ Some Scan
+whole_scan : line_of (codes " scan\t") ≡ Some (Scan all_keys None)
 unfolding reading_of scan_of
 whole_scan = refl
+
+scan_of_a_range : line_of (codes "scan [r1,r\\x32) fams=a,") ≡ Some (Scan (record { start = BeforeRow (codes "r1"); end = BeforeRow (codes "r2") }) (Some (codes "a" ∷ [] ∷ [])))
+unfolding reading_of scan_of range_of bracketed rows_between optional_row short_text families_of
+scan_of_a_range = refl
+
+-- an empty row is a missing one, and the first comma cuts
+scan_of_an_odd_range : line_of (codes "scan [(,)) fams=") ≡ Some (Scan (record { start = BeforeRow (codes "("); end = BeforeRow (codes ")") }) (Some ([] ∷ [])))
+unfolding reading_of scan_of range_of bracketed rows_between optional_row short_text families_of
+scan_of_an_odd_range = refl
+
+open_session : line_of (codes "open s01 (,r] isolated") ≡ Some (Open 1 (record { start = Everything; end = BehindRow (codes "r") }) None true)
+unfolding reading_of session_line_of open_of number_of range_of bracketed rows_between optional_row short_text
+open_session = refl
+
+fetch : line_of (codes "fetch s64 0000000010") ≡ Some (Fetch 64 10)
+unfolding reading_of session_line_of fetch_of number_of
+fetch = refl
+
+session_lines : map line_of (codes "renew s1" ∷ codes "drop s2" ∷ codes "close s3" ∷ []) ≡ Some (Renew 1) ∷ Some (Drop 2) ∷ Some (Close 3) ∷ []
+unfolding reading_of session_line_of number_of
+session_lines = refl
+
+-- a file that is named twice counts once
+compact : line_of (codes "compact j7 f3 f1 f3") ≡ Some (Compact 7 (1 ∷ 3 ∷ []))
+unfolding reading_of session_line_of store_line_of compact_of number_of with_number
+compact = refl
+
+store_lines : map line_of (codes "freeze" ∷ codes "flushed" ∷ codes "status" ∷ codes "compact j1" ∷ codes "compactall j999999" ∷ codes "finish j1" ∷ []) ≡ Some Freeze ∷ Some Flushed ∷ Some Status ∷ Some (Compact 1 []) ∷ Some (CompactAll 999999) ∷ Some (Finish 1) ∷ []
+unfolding reading_of session_line_of store_line_of compact_of number_of
+store_lines = refl
 
 comment : line_of (codes "\t#m r1") ≡ Some Nothing
 unfolding reading_of
@@ -78,16 +112,21 @@ unfolding reading_of mutation_of update_of put_of
 bad_escape = refl
 
 two_returns : line_of (codes "scan\r") ≡ None
-unfolding reading_of
+unfolding reading_of session_line_of store_line_of
 two_returns = refl
 
-scan_of_a_range : line_of (codes "scan *") ≡ None
-unfolding reading_of scan_of
-scan_of_a_range = refl
+-- the first byte and the last are the brackets, and there is a comma
+bad_ranges : map line_of (codes "scan r1" ∷ codes "scan [r1]" ∷ codes "scan [r1,r2" ∷ codes "scan [" ∷ codes "scan [r\\x2,]" ∷ codes "scan * *" ∷ []) ≡ None ∷ None ∷ None ∷ None ∷ None ∷ None ∷ []
+unfolding reading_of scan_of range_of bracketed rows_between optional_row short_text
+bad_ranges = refl
 
-other_word : line_of (codes "freeze") ≡ None
-unfolding reading_of
-other_word = refl
+bad_numbers : map line_of (codes "open s0" ∷ codes "open s65" ∷ codes "open 1" ∷ codes "fetch s1 0" ∷ codes "fetch s1 1000001" ∷ codes "fetch s1 00000000001" ∷ codes "fetch s1 +1" ∷ codes "compact j0" ∷ codes "finish j1000000" ∷ codes "compact j1 f0" ∷ []) ≡ None ∷ None ∷ None ∷ None ∷ None ∷ None ∷ None ∷ None ∷ None ∷ None ∷ []
+unfolding reading_of session_line_of store_line_of open_of fetch_of compact_of number_of
+bad_numbers = refl
+
+too_many_words : map line_of (codes "freeze now" ∷ codes "renew s1 s2" ∷ codes "finish" ∷ codes "open s1 isolated fams=a" ∷ codes "thaw" ∷ []) ≡ None ∷ None ∷ None ∷ None ∷ None ∷ []
+unfolding reading_of session_line_of store_line_of open_of number_of families_of short_text
+too_many_words = refl
 
 late_comment : line_of (codes "scan #") ≡ None
 unfolding reading_of scan_of
@@ -150,3 +189,7 @@ syntax_refusal = refl
 
 bound_refusal : refusal_line (Bound Updates) ≡ codes "no bound updates\n"
 bound_refusal = refl
+
+job_refusal : refusal_line (InJob 12 3) ≡ codes "no in-job f12 j3\n"
+unfolding digits
+job_refusal = refl

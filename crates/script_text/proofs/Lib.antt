@@ -3,3 +3,5 @@ pub mod Cutting
 pub mod Wording
 pub mod Updating
 pub mod Examples
+pub mod Splitting
+mod Digits

@@ -1,7 +1,6 @@
+-- What was read in front of what is still to be read.
 use Rattle.std.proofs.Common.{List, ◌++◌, Option, Some, None}
-use Rattle.cell_key.specs.declared.mutation.Update.{Update}
 
--- updates in front of a reading
-abbrev pub with_all : List Update → Option (List Update) → Option (List Update)
+abbrev pub with_all : {X : Type 0} → List X → Option (List X) → Option (List X)
 with_all us None = None
 with_all us (Some vs) = Some (us ++ vs)

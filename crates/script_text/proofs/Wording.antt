@@ -5,9 +5,9 @@ use Rattle.std.proofs.lemmas.Bool.{false≢true}
 use Rattle.std.proofs.lemmas.Grind.{common_steps}
 use Rattle.std.proofs.lemmas.List.{drop_all, take_rest}
 use Rattle.std.proofs.lemmas.List.Quantifiers.{position-Some}
-use Rattle.std.proofs.lemmas.List.Splits.{slice_split_first, slice_split_none}
 use Rattle.script_text.specs.Words.{is_blank, is_empty, words_of}
-use Rattle.script_text.proofs.Positions.{fails_everywhere, position_or_len-at}
+use Rattle.script_text.proofs.Positions.{fails_everywhere}
+use Rattle.script_text.proofs.Splitting.{split_at, split_nowhere}
 
 -- a byte that is no blank
 abbrev pub is_inked : ℕ → Bool
@@ -51,12 +51,6 @@ words_of-behind [] k lt e = absurd (omega arith)
 words_of-behind (b ∷ bs) zero lt e = rw e refl
 words_of-behind (b ∷ bs) (suc k) lt e = words_of-behind bs k (omega arith) e
 
-split_at_blank : (text : List ℕ) (k : ℕ) → Some k ≡ position is_blank text → slice_split is_blank text ≡ take k text ∷ slice_split is_blank (drop (suc k) text)
-split_at_blank text k e =
-    let at = position_or_len-at is_blank text k e in
-    let inside = (position-Some is_blank text k 0 (sym e)).0 in
-    slice_split_first is_blank text 0 (omega (arith, at, inside)) ∙ ap (λ n. take n text ∷ slice_split is_blank (drop (n + 1) text)) at ∙ rw add-one refl
-
 -- a word at the front ends before the first blank
 words_of-ended : (text : List ℕ) (end : ℕ) → 0 < length text → is_blank (slice_index text 0) ≡ false → Some end ≡ position is_blank text → words_of text ≡ take end text ∷ words_of (drop end text)
 words_of-ended [] end some first e = absurd (omega arith)
@@ -64,16 +58,13 @@ words_of-ended (b ∷ bs) zero some first e =
     let at : is_blank b ≡ true = (position-Some is_blank (b ∷ bs) zero 0 (sym e)).1 in absurd (false≢true (sym first ∙ at))
 words_of-ended (b ∷ bs) (suc k) some first e =
     let at = position-Some is_blank (b ∷ bs) (suc k) 0 (sym e) in
-    ap (filter is_some_word) (split_at_blank (b ∷ bs) (suc k) e)
+    ap (filter is_some_word) (split_at is_blank (b ∷ bs) (suc k) e)
     ∙ ap (λ words. (b ∷ take k bs) ∷ words) (words_of-behind (b ∷ bs) (suc k) at.0 at.1)
 
 -- or with the text
 words_of-last : (text : List ℕ) → 0 < length text → None ≡ position is_blank text → words_of text ≡ text ∷ []
 words_of-last [] some e = absurd (omega arith)
-words_of-last (b ∷ bs) some e = ap (filter is_some_word) (slice_split_none is_blank (b ∷ bs) each)
-  where
-    each : All (λ x. is_blank x ≡ false) (b ∷ bs)
-    each k d lt = grind (arith, common_steps, fails_everywhere is_blank (b ∷ bs) (sym e) k lt)
+words_of-last (b ∷ bs) some e = ap (filter is_some_word) (split_nowhere is_blank (b ∷ bs) e)
 
 -- what is left of a text from a place on
 abbrev pub rest_from : ℕ → List ℕ → List ℕ

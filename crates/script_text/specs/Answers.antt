@@ -6,7 +6,8 @@ use Rattle.cell_key.specs.Escape.{escape_of}
 use Rattle.cell_key.specs.declared.key.Part.{Part}
 use Rattle.cell_key.specs.declared.key.Part.TheVariants.{Row, Family, Qualifier, Visibility, Value, Updates}
 use Rattle.script_text.specs.declared.refusal.Refusal.{Refusal}
-use Rattle.script_text.specs.declared.refusal.Refusal.TheVariants.{Syntax, Bound}
+use Rattle.script_text.specs.declared.refusal.Refusal.TheVariants as refusal
+use Rattle.script_text.specs.declared.refusal.Refusal.TheVariants.{Syntax, Bound, Duplicate, DeleteHere, Full, NothingInMemory, FrozenThere, NothingFrozen, TooManyFiles, JobExists, NoFiles, NoSuchFile, InJob, NoSuchJob, SessionOpen, NoSession, Live}
 
 -- = and the value; a marker has no value, and - in its place
 abbrev pub value_text : Cell → List ℕ
@@ -56,6 +57,22 @@ part_name Updates = codes "updates"
 abbrev pub refusal_code : Refusal → List ℕ
 refusal_code Syntax = codes "syntax"
 refusal_code (Bound part) = codes "bound " ++ part_name part
+refusal_code Duplicate = codes "duplicate"
+refusal_code DeleteHere = codes "delete"
+refusal_code refusal.Value = codes "value"
+refusal_code Full = codes "full"
+refusal_code NothingInMemory = codes "empty"
+refusal_code FrozenThere = codes "frozen-there"
+refusal_code NothingFrozen = codes "not-frozen"
+refusal_code TooManyFiles = codes "too-many-files"
+refusal_code (JobExists job) = codes "job-exists j" ++ decimal job
+refusal_code NoFiles = codes "files"
+refusal_code (NoSuchFile file) = codes "file f" ++ decimal file
+refusal_code (InJob file job) = codes "in-job f" ++ decimal file ++ codes " j" ++ decimal job
+refusal_code (NoSuchJob job) = codes "job j" ++ decimal job
+refusal_code (SessionOpen session) = codes "session-open s" ++ decimal session
+refusal_code (NoSession session) = codes "session s" ++ decimal session
+refusal_code Live = codes "live"
 
 -- the line of a refusal
 abbrev pub refusal_line : Refusal → List ℕ

@@ -36,3 +36,36 @@ colon = 58
 -- =
 abbrev pub equals : ℕ
 equals = 61
+
+-- (
+abbrev pub left_parenthesis : ℕ
+left_parenthesis = 40
+
+-- )
+abbrev pub right_parenthesis : ℕ
+right_parenthesis = 41
+
+-- *
+abbrev pub star : ℕ
+star = 42
+
+-- ,
+abbrev pub comma : ℕ
+comma = 44
+
+-- [
+abbrev pub left_bracket : ℕ
+left_bracket = 91
+
+-- ]
+abbrev pub right_bracket : ℕ
+right_bracket = 93
+
+abbrev pub letter_f : ℕ
+letter_f = 102
+
+abbrev pub letter_j : ℕ
+letter_j = 106
+
+abbrev pub letter_s : ℕ
+letter_s = 115

@@ -1,12 +1,15 @@
 -- The grammar of script lines. All of this is this project's own.
-use Rattle.std.specs.Prelude.{ℕ, Bool, false, ◌==◌, if◌then◌else◌, List, [], ◌∷◌, Option, Some, None, codes}
+use Rattle.std.specs.Prelude.{ℕ, Bool, true, false, ◌==◌, if◌then◌else◌, List, [], ◌∷◌, Option, Some, None, option_map, codes}
 use Rattle.std.specs.Str.{bytes_eq}
 use Rattle.cell_key.specs.declared.mutation.Update.{Update}
+use Rattle.cell_key.specs.FileNumbers.{with_number}
 use Rattle.script_text.specs.Code.{colon, equals, hash, minus, plus}
 use Rattle.script_text.specs.Reading.{◌>>=◌}
+use Rattle.script_text.specs.Numbers.{file_of, job_of, number_to, session_of}
+use Rattle.script_text.specs.Scans.{behind_families, behind_range, families_in, families_text, range_in, range_word}
 use Rattle.script_text.specs.Words.{split_once, text_of, words_of}
 use Rattle.script_text.specs.declared.line.Line.{Line}
-use Rattle.script_text.specs.declared.line.Line.TheVariants.{Nothing, Mutate, Scan}
+use Rattle.script_text.specs.declared.line.Line.TheVariants.{Nothing, Mutate, Scan, Open, Fetch, Renew, Drop, Close, Freeze, Flushed, Status, Compact, CompactAll, Finish}
 
 -- FAMILY:QUALIFIER:VISIBILITY=VALUE, each part up to the first byte that ends it
 unfoldable pub put_of : List ℕ → Option Update
@@ -51,14 +54,99 @@ mutation_of (word ∷ words) = do
   updates ← updates_of words
   Some (Mutate (record { row = row; updates = updates }))
 
--- what stands behind scan: nothing
+-- nothing stands behind a line's words
+abbrev pub ended : List (List ℕ) → Option Line → Option Line
+ended [] line = line
+ended (word ∷ words) line = None
+
+-- what stands behind scan: a range, then families, both optional
 unfoldable pub scan_of : List (List ℕ) → Option Line
-scan_of [] = Some Scan
-scan_of (word ∷ words) = None
+scan_of words = do
+  range ← range_in (range_word words)
+  families ← families_in (families_text (behind_range words))
+  ended (behind_families (behind_range words)) (Some (Scan range families))
+
+-- the word `isolated`, or nothing
+abbrev pub isolated_of : List (List ℕ) → Option Bool
+isolated_of [] = Some false
+isolated_of (word ∷ []) = if bytes_eq word (codes "isolated") then Some true else None
+isolated_of (word ∷ next ∷ words) = None
+
+-- what stands behind open: a session, then a range, families and `isolated`, all three optional
+unfoldable pub open_of : List (List ℕ) → Option Line
+open_of [] = None
+open_of (word ∷ words) = do
+  session ← session_of word
+  range ← range_in (range_word words)
+  families ← families_in (families_text (behind_range words))
+  isolated ← isolated_of (behind_families (behind_range words))
+  Some (Open session range families isolated)
+
+-- the only word
+abbrev pub only_word : List (List ℕ) → Option (List ℕ)
+only_word [] = None
+only_word (word ∷ []) = Some word
+only_word (word ∷ next ∷ words) = None
+
+-- what stands behind fetch: a session, and how many entries, from 1 to 1,000,000
+unfoldable pub fetch_of : List (List ℕ) → Option Line
+fetch_of [] = None
+fetch_of (word ∷ words) = do
+  session ← session_of word
+  last ← only_word words
+  count ← number_to 1000000 last
+  Some (Fetch session count)
+
+-- what stands behind renew, drop and close: a session
+abbrev pub only_session : List (List ℕ) → Option ℕ
+only_session words = do
+  word ← only_word words
+  session_of word
+
+-- what stands behind compactall and finish: a job
+abbrev pub only_job : List (List ℕ) → Option ℕ
+only_job words = do
+  word ← only_word words
+  job_of word
+
+-- each word is a file; one that is named twice counts once
+abbrev pub files_onto : List ℕ → List (List ℕ) → Option (List ℕ)
+files_onto ids [] = Some ids
+files_onto ids (word ∷ words) = do
+  id ← file_of word
+  files_onto (with_number id ids) words
+
+-- what stands behind compact: a job and its files
+unfoldable pub compact_of : List (List ℕ) → Option Line
+compact_of [] = None
+compact_of (word ∷ words) = do
+  job ← job_of word
+  ids ← files_onto [] words
+  Some (Compact job ids)
 
 abbrev pub is_comment : List ℕ → Bool
 is_comment [] = false
 is_comment (b ∷ bs) = b == hash
+
+-- a line that asks for the store's steps or its state, by its first word
+unfoldable pub store_line_of : List ℕ → List (List ℕ) → Option Line
+store_line_of word words =
+    if bytes_eq word (codes "freeze") then ended words (Some Freeze) else
+    if bytes_eq word (codes "flushed") then ended words (Some Flushed) else
+    if bytes_eq word (codes "status") then ended words (Some Status) else
+    if bytes_eq word (codes "compact") then compact_of words else
+    if bytes_eq word (codes "compactall") then option_map CompactAll (only_job words) else
+    if bytes_eq word (codes "finish") then option_map Finish (only_job words) else None
+
+-- a line that asks a session, or the store
+unfoldable pub session_line_of : List ℕ → List (List ℕ) → Option Line
+session_line_of word words =
+    if bytes_eq word (codes "open") then open_of words else
+    if bytes_eq word (codes "fetch") then fetch_of words else
+    if bytes_eq word (codes "renew") then option_map Renew (only_session words) else
+    if bytes_eq word (codes "drop") then option_map Drop (only_session words) else
+    if bytes_eq word (codes "close") then option_map Close (only_session words) else
+    store_line_of word words
 
 -- the reading of a line's words
 unfoldable pub reading_of : List (List ℕ) → Option Line
@@ -66,7 +154,7 @@ reading_of [] = Some Nothing
 reading_of (word ∷ words) =
     if is_comment word then Some Nothing else
     if bytes_eq word (codes "m") then mutation_of words else
-    if bytes_eq word (codes "scan") then scan_of words else None
+    if bytes_eq word (codes "scan") then scan_of words else session_line_of word words
 
 -- the reading of a line
 abbrev pub line_of : List ℕ → Option Line

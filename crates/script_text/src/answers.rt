@@ -2,13 +2,13 @@
 ghost use Rattle.std.specs.Prelude.{◌≡◌, ◌++◌, IfOk, OnOk};
 ghost use Rattle.std.specs.Fmt.{decimal, signed_decimal};
 ghost use Rattle.cell_key.specs.Views.{cell_of};
-ghost use Rattle.script_text.specs.Answers.{accepted_line, at_line, end_line, entry_line, number_line, part_name, refusal_code, refusal_line, value_text};
+ghost use Rattle.script_text.specs.Answers.{accepted_line, at_line, end_line, entry_line, number_line, value_text};
 
-use crate::refusal::Refusal;
-use cell_key::{ByteText, EntryRef, NoMemory, Part, append_escape};
+use cell_key::{ByteText, EntryRef, NoMemory, append_escape};
 use std::alloc::Global;
 
-fn append_number(alloc: Global, text: &mut ByteText, n: u64) -> Result<(), NoMemory>
+/// Appends a number, without leading zeros.
+pub fn append_number(alloc: Global, text: &mut ByteText, n: u64) -> Result<(), NoMemory>
     ensures { OnOk result (text.new ≡ text.old ++ decimal n) }
 {
     let digits = n.to_string(alloc)?;
@@ -94,47 +94,4 @@ pub fn append_end(alloc: Global, text: &mut ByteText, n: u64) -> Result<(), NoMe
     ensures { OnOk result (text.new ≡ text.old ++ end_line n) }
 {
     append_number_line(alloc, text, b"end", n)
-}
-
-fn part_name(part: Part) -> &'static [u8]
-    ensures { result.now ≡ part_name part }
-{
-    match part {
-        Part::Row => b"row",
-        Part::Family => b"family",
-        Part::Qualifier => b"qualifier",
-        Part::Visibility => b"visibility",
-        Part::Value => b"value",
-        Part::Updates => b"updates",
-    }
-}
-
-fn append_code(text: &mut ByteText, refusal: &Refusal) -> Result<(), NoMemory>
-    ensures { OnOk result (text.new ≡ text.old ++ refusal_code refusal.now) }
-{
-    match refusal {
-        Refusal::Syntax => text.append(b"syntax"),
-        Refusal::Bound(part) => {
-            text.append(b"bound ")?;
-            text.append(part_name(*part))
-        }
-    }
-}
-
-/// Appends a refusal's line, `no CODE`.
-pub fn append_refusal(text: &mut ByteText, refusal: &Refusal) -> Result<(), NoMemory>
-    ensures { OnOk result (text.new ≡ text.old ++ refusal_line refusal.now) }
-{
-    text.append(b"no ")?;
-    append_code(text, refusal)?;
-    text.append(b"\n")
-}
-
-/// The line of a refusal, as `append_refusal` writes it.
-pub fn refusal_text(alloc: Global, refusal: &Refusal) -> Result<ByteText, NoMemory>
-    ensures { IfOk result (λ text. text ≡ refusal_line refusal.now) }
-{
-    let mut text = ByteText::new(alloc);
-    append_refusal(&mut text, refusal)?;
-    Ok(text)
 }

@@ -5,8 +5,10 @@ ghost use Rattle.script_text.specs.Words.{words_of};
 
 use crate::line::{Line, LineError};
 use crate::parts::part_text;
+use crate::scans::{families_in, range_in, take_families, take_range};
+use crate::session_lines::parse_session_line;
 use crate::updates::parse_updates;
-use crate::words::next_word;
+use crate::words::{ended, next_word};
 use cell_key::Mutation;
 use std::alloc::Global;
 
@@ -23,15 +25,16 @@ fn parse_mutation(alloc: Global, text: &[u8]) -> Result<Line, LineError>
     Ok(Line::Mutate(Mutation { row, updates }))
 }
 
-/// What stands behind `scan`: nothing.
+/// What stands behind `scan`: a range, then families, both optional.
 #[tactic(auto, unfolding(crate::specs::Grammar::scan_of))]
-fn parse_scan(text: &[u8]) -> Result<Line, LineError>
+fn parse_scan(alloc: Global, text: &[u8]) -> Result<Line, LineError>
     ensures { Gives (λ l. l) (scan_of (words_of text.now)) result }
 {
-    match next_word(text) {
-        None => Ok(Line::Scan),
-        Some(_) => Err(LineError::Syntax),
-    }
+    let (range, rest) = take_range(text);
+    let (families, rest) = take_families(rest);
+    let range = range_in(alloc, range)?;
+    let families = families_in(alloc, families)?;
+    ended(rest, Line::Scan { range, families })
 }
 
 fn is_comment(word: &[u8]) -> bool
@@ -45,10 +48,13 @@ fn is_comment(word: &[u8]) -> bool
 /// - No words, or a first word that begins with `#`, is [`Line::Nothing`].
 /// - `m ROW UPDATE ..` is [`Line::Mutate`]. A put is `+FAMILY:QUALIFIER:VISIBILITY=VALUE`, a delete is
 ///   `-FAMILY:QUALIFIER:VISIBILITY`, and a part runs to the first byte that ends it and is then unescaped.
-/// - `scan` is [`Line::Scan`].
+/// - `scan` with an optional RANGE and optional FAMS is [`Line::Scan`]. RANGE is `*`, or an opening `[` or `(`, an
+///   optional row, `,`, an optional row, and a closing `]` or `)`; FAMS is `fams=` and 1 to 64 families between commas.
+/// - `open sN` with an optional RANGE, FAMS and `isolated`, `fetch sN COUNT`, `renew sN`, `drop sN` and `close sN` ask a
+///   session.
+/// - `freeze`, `flushed`, `status`, `compact jN fN ..`, `compactall jN` and `finish jN` ask the store.
 ///
-/// Any other line has no reading, and the error [`LineError::Syntax`] comes exactly there. Only a mutation
-/// takes memory.
+/// Any other line has no reading, and the error [`LineError::Syntax`] comes exactly there.
 #[tactic(auto, unfolding(crate::specs::Grammar::reading_of))]
 pub fn parse_line(alloc: Global, line: &[u8]) -> Result<Line, LineError>
     ensures { Gives (λ l. l) (line_of line.now) result }
@@ -63,7 +69,7 @@ pub fn parse_line(alloc: Global, line: &[u8]) -> Result<Line, LineError>
         return parse_mutation(alloc, rest);
     }
     if word == b"scan".as_slice() {
-        return parse_scan(rest);
+        return parse_scan(alloc, rest);
     }
-    Err(LineError::Syntax)
+    parse_session_line(alloc, word, rest)
 }

@@ -7,19 +7,23 @@ mod grammar;
 mod line;
 mod line_laws;
 mod lines;
+mod numbers;
 mod parts;
 mod refusal;
+mod refusal_lines;
+mod scans;
 mod search;
+mod session_lines;
+mod store_lines;
 #[cfg(test)]
 mod tests;
 mod updates;
 mod words;
 
-pub use answers::{
-    append_accepted, append_at, append_end, append_entry, append_refusal, entry_text, refusal_text,
-};
+pub use answers::{append_accepted, append_at, append_end, append_entry, entry_text};
 pub use grammar::parse_line;
 pub use line::{Line, LineError};
 pub use line_laws::lines_are_whole;
 pub use lines::{Lines, split_input};
 pub use refusal::Refusal;
+pub use refusal_lines::{append_refusal, refusal_text};

@@ -34,7 +34,11 @@ fn reading(alloc: Global, line: &str) -> Result<ByteText, NoMemory> {
     match parse_line(alloc, line.as_bytes()) {
         Ok(Line::Nothing) => ByteText::of(alloc, b"nothing"),
         Ok(Line::Mutate(mutation)) => shown(alloc, &mutation),
-        Ok(Line::Scan) => ByteText::of(alloc, b"scan"),
+        Ok(Line::Scan { families, .. }) if families.has(b"b") => ByteText::of(alloc, b"scan"),
+        Ok(Line::Scan { .. }) => ByteText::of(alloc, b"scan without b"),
+        Ok(Line::Open { isolated, .. }) if isolated => ByteText::of(alloc, b"open isolated"),
+        Ok(Line::Compact { files, .. }) if files.len() == 2 => ByteText::of(alloc, b"compact two"),
+        Ok(_) => ByteText::of(alloc, b"other"),
         Err(LineError::Syntax) => ByteText::of(alloc, b"syntax"),
         Err(LineError::NoMemory) => Err(NoMemory),
     }
@@ -48,6 +52,12 @@ fn reads_lines(rt: HostRuntime) -> Result<(), Fail> {
         ("  # m r1 +a:x:=1", "nothing"),
         ("\tscan ", "scan"),
         ("scan\r", "syntax"),
+        ("scan [r1,r2) fams=a,b", "scan"),
+        ("scan (,) fams=a", "scan without b"),
+        ("open s64 fams=,b isolated", "open isolated"),
+        ("compact j1 f2 f9999999999 f2", "compact two"),
+        ("fetch s1 1000000", "other"),
+        ("fetch s1 1000001", "syntax"),
         ("m r1", "m[r1]"),
         ("m r1 +a:x:=1", "m[r1] put[a][x][][1]"),
         ("m  r1\t+a:x:=1  -b::w ", "m[r1] put[a][x][][1] del[b][][w]"),
@@ -106,7 +116,7 @@ fn writes_answers(rt: HostRuntime) -> Result<(), Fail> {
         },
     )?;
     append_end(alloc, &mut text, 0)?;
-    append_refusal(&mut text, &Refusal::Bound(Part::Row))?;
+    append_refusal(alloc, &mut text, &Refusal::Bound(Part::Row))?;
     let want =
         b"m 1\nat 18446744073709551615\nr2 :: @-9223372036854775808 -\nend 0\nno bound row\n";
     assert_eq!(rt; text.bytes(), want.as_slice());
@@ -119,6 +129,22 @@ fn writes_answers(rt: HostRuntime) -> Result<(), Fail> {
         (Refusal::Bound(Part::Qualifier), "no bound qualifier\n"),
         (Refusal::Bound(Part::Visibility), "no bound visibility\n"),
         (Refusal::Bound(Part::Value), "no bound value\n"),
+        (Refusal::Duplicate, "no duplicate\n"),
+        (Refusal::DeleteHere, "no delete\n"),
+        (Refusal::Value, "no value\n"),
+        (Refusal::Full, "no full\n"),
+        (Refusal::NothingInMemory, "no empty\n"),
+        (Refusal::FrozenThere, "no frozen-there\n"),
+        (Refusal::NothingFrozen, "no not-frozen\n"),
+        (Refusal::TooManyFiles, "no too-many-files\n"),
+        (Refusal::JobExists(1), "no job-exists j1\n"),
+        (Refusal::NoFiles, "no files\n"),
+        (Refusal::NoSuchFile(7), "no file f7\n"),
+        (Refusal::InJob { file: 1, job: 2 }, "no in-job f1 j2\n"),
+        (Refusal::NoSuchJob(9), "no job j9\n"),
+        (Refusal::SessionOpen(64), "no session-open s64\n"),
+        (Refusal::NoSession(3), "no session s3\n"),
+        (Refusal::Live, "no live\n"),
     ];
     for (refusal, want) in cases {
         assert_eq!(rt; refusal_text(alloc, &refusal)?.bytes(), want.as_bytes());

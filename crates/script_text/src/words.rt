@@ -1,5 +1,9 @@
-ghost use Rattle.std.specs.Prelude.{◌≡◌, ◌<◌, [], ◌∷◌, length, not, position, MatchOption, IfSome};
+ghost use Rattle.std.specs.Prelude.{◌≡◌, ◌<◌, [], ◌∷◌, length, not, position, MatchOption, IfSome, Some};
+ghost use Rattle.script_text.specs.Grammar.{ended, only_word};
+ghost use Rattle.script_text.specs.Reading.{Gives};
 ghost use Rattle.script_text.specs.Words.{is_blank, words_of};
+
+use crate::line::{Line, LineError};
 
 fn is_blank(b: u8) -> bool
     ensures { result ≡ is_blank b }
@@ -32,5 +36,28 @@ pub fn next_word(text: &[u8]) -> Option<(&[u8], &[u8])>
     match blank_start(text) {
         Some(end) => Some(text.split_at(end)),
         None => Some((text, &[])),
+    }
+}
+
+/// The only word of a text.
+pub fn only_word(text: &[u8]) -> Result<&[u8], LineError>
+    ensures { Gives (λ w. w.now) (only_word (words_of text.now)) result }
+{
+    let Some((word, rest)) = next_word(text) else {
+        return Err(LineError::Syntax);
+    };
+    match next_word(rest) {
+        None => Ok(word),
+        Some(_) => Err(LineError::Syntax),
+    }
+}
+
+/// A line behind whose words nothing stands.
+pub fn ended(text: &[u8], line: Line) -> Result<Line, LineError>
+    ensures { Gives (λ l. l) (ended (words_of text.now) (Some line)) result }
+{
+    match next_word(text) {
+        None => Ok(line),
+        Some(_) => Err(LineError::Syntax),
     }
 }
