@@ -3,6 +3,7 @@
 
 mod laws;
 mod op;
+mod parts;
 mod reading;
 mod writing;
 
