@@ -94,7 +94,7 @@ text_back : (e : Encoding) (z : ℤ) → is_long z ≡ true → number_in e (tex
 text_back encoding.Fixed z h = fixed_back z h
 text_back encoding.String z h = decimal_back z h
 
-number_long : (o : Op) (z : ℤ) → is_number o z ≡ true → is_long z ≡ true
+pub number_long : (o : Op) (z : ℤ) → is_number o z ≡ true → is_long z ≡ true
 number_long op.Min z h = h
 number_long op.Max z h = h
 number_long op.Sum (pos n) h = h

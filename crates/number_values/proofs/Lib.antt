@@ -1,3 +1,4 @@
 pub mod Decimals
 pub mod Joining
 pub mod ArrayParts
+pub mod ArrayLoops

@@ -53,6 +53,11 @@ array_sum [] w = w
 array_sum (a ∷ v) [] = a ∷ v
 array_sum (a ∷ v) (b ∷ w) = stopped_sum a b ∷ array_sum v w
 
+-- what stands between two numbers
+abbrev pub separator : Encoding → List ℕ
+separator encoding.Fixed = []
+separator encoding.String = 44 ∷ []
+
 -- how an array is written: 8 bytes each, or decimal numbers between commas
 unfoldable pub array_text : Encoding → List ℤ → List ℕ
 array_text encoding.Fixed v = concat (map (text_of encoding.Fixed) v)

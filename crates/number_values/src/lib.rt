@@ -1,12 +1,14 @@
 // Numbers as values of entries: how they are spelled, and what an operation makes of two.
 #![tactic(auto)]
 
+mod arrays;
 mod laws;
 mod op;
 mod parts;
 mod reading;
 mod writing;
 
+pub use arrays::NumberArray;
 pub use laws::numbers_are_joined_in_any_order;
 pub use op::{Encoding, Op};
 pub use writing::NumberText;
