@@ -116,11 +116,11 @@ length_more at v n l = omega (arith, length_suc at v n l)
 
 -- ---- elements
 
-head_true : (a b : Bool) → (a && b) ≡ true → a ≡ true
+pub head_true : (a b : Bool) → (a && b) ≡ true → a ≡ true
 head_true true b h = refl
 head_true false b h = h
 
-tail_true : (a b : Bool) → (a && b) ≡ true → b ≡ true
+pub tail_true : (a b : Bool) → (a && b) ≡ true → b ≡ true
 tail_true true b h = h
 tail_true false b h = let no : false ≡ true = h in cc
 

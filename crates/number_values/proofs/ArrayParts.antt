@@ -1,5 +1,5 @@
 -- The parts of an array's bytes, one after the other.
-use Rattle.std.proofs.Common.{◌≡◌, ◌<◌, ◌≤◌, ◌+◌, ℕ, Bool, List, [], ◌∷◌, Some, None, length, take, drop, position, refl, ap, ◌∙◌, arith}
+use Rattle.std.proofs.Common.{◌≡◌, ◌<◌, ◌≤◌, ◌+◌, ℕ, Bool, List, [], ◌∷◌, Some, None, length, take, drop, true, false, position, nat_lt, refl, ap, ◌∙◌, arith}
 use Rattle.std.specs.List.{slice_split, position_or_len}
 use Rattle.std.proofs.lemmas.Grind.{common_steps}
 use Rattle.std.proofs.lemmas.List.Splits.{slice_split_first, slice_split_none}
@@ -33,6 +33,20 @@ eights_last (a ∷ b ∷ c ∷ d ∷ e ∷ []) l = refl
 eights_last (a ∷ b ∷ c ∷ d ∷ e ∷ f ∷ []) l = refl
 eights_last (a ∷ b ∷ c ∷ d ∷ e ∷ f ∷ g ∷ []) l = refl
 eights_last (a ∷ b ∷ c ∷ d ∷ e ∷ f ∷ g ∷ h ∷ []) l = refl
+
+-- there is always a piece
+pub eights_some : (bytes : List ℕ) → 0 < length (eights bytes)
+eights_some bytes = go (nat_lt 8 (length bytes)) refl
+  where
+    above : (n : ℕ) → nat_lt 8 n ≡ true → 8 < n
+    above n h = grind arith
+
+    not_above : (n : ℕ) → nat_lt 8 n ≡ false → n ≤ 8
+    not_above n h = grind arith
+
+    go : (b : Bool) → nat_lt 8 (length bytes) ≡ b → 0 < length (eights bytes)
+    go true h = let e = ap (λ ps. length ps) (eights_more bytes (above (length bytes) h)) in omega arith
+    go false h = let e = ap (λ ps. length ps) (eights_last bytes (not_above (length bytes) h)) in omega arith
 
 -- the first part ends at the first element that passes
 pub split_found : (p : ℕ → Bool) (bytes : List ℕ) (at : ℕ) → position p bytes ≡ Some at → slice_split p bytes ≡ take at bytes ∷ slice_split p (drop (at + 1) bytes)

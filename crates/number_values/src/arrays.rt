@@ -55,15 +55,19 @@ impl NumberArray {
         }
     }
 
-    /// Drops the numbers. It takes no memory.
-    pub fn clear(&mut self)
-        ensures { self.new ≡ [] }
+    /// Becomes the array that the bytes spell. It takes memory for a longer array; after an error it is not said which
+    /// numbers it has.
+    #[tactic(auto, unfolding(crate::specs::Arrays::array_sum))]
+    pub fn read(&mut self, encoding: Encoding, bytes: &[u8]) -> Result<(), AllocError>
+        requires { spells_array encoding bytes.now ≡ true }
+        ensures { OnOk result (self.new ≡ array_in encoding bytes.now) }
     {
         self.numbers.clear();
+        self.add(encoding, bytes)
     }
 
-    /// Adds the array that the bytes spell, element by element, each sum stopped at 2^63 - 1. It takes memory for a longer
-    /// array; after an error it is not said which sums it has.
+    /// Adds the array that the bytes spell, element by element, where each sum stops at 2^63 - 1 and the shorter array goes
+    /// on with zeros. It takes memory for a longer array; after an error it is not said which numbers it has.
     pub fn add(&mut self, encoding: Encoding, bytes: &[u8]) -> Result<(), AllocError>
         requires { spells_array encoding bytes.now ≡ true }
         ensures { OnOk result (self.new ≡ array_sum self.old (array_in encoding bytes.now)) }

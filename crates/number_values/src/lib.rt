@@ -9,7 +9,7 @@ mod reading;
 mod writing;
 
 pub use arrays::NumberArray;
-pub use laws::numbers_are_joined_in_any_order;
+pub use laws::{values_are_joined_in_any_order, values_are_short};
 pub use op::{Encoding, Op};
 pub use writing::NumberText;
 

@@ -14,13 +14,13 @@ returns-then-count-eq-MAX_LENGTH c =
     let part = c.split_first.result.0.now in
     let parts = parts_left e (option_copied c.split_first.result.1) in
     let so_far : spells_array e c.args.bytes.now ≡ still_array e c.loop-rest.count (part ∷ parts) =
-        c.loop-rest.invariant.same
-        ∙ ap (λ r. still_array e c.loop-rest.count (parts_left e (option_copied r))) c.in-Some.is
-        ∙ ap (still_array e c.loop-rest.count) c.split_first.ensures.parts
+    c.loop-rest.invariant.same
+    ∙ ap (λ r. still_array e c.loop-rest.count (parts_left e (option_copied r))) c.in-Some.is
+    ∙ ap (still_array e c.loop-rest.count) c.split_first.ensures.parts
     in
     elim c.then-count-eq-MAX_LENGTH.branch [
-      then-count-eq-MAX_LENGTH-via-then-count-eq-MAX_LENGTH w ↦ sym (so_far ∙ still_full e c.loop-rest.count part parts w.if-count-eq-MAX_LENGTH.true)
-    | then-count-eq-MAX_LENGTH-via-else-count-eq-MAX_LENGTH+then-not-reads_number w ↦ sym (so_far ∙ still_not e c.loop-rest.count part parts (sym w.reads_number.ensures ∙ w.if-not-reads_number.true))
+      | then-count-eq-MAX_LENGTH-via-then-count-eq-MAX_LENGTH w ↦ sym (so_far ∙ still_full e c.loop-rest.count part parts w.if-count-eq-MAX_LENGTH.true)
+      | then-count-eq-MAX_LENGTH-via-else-count-eq-MAX_LENGTH+then-not-reads_number w ↦ sym (so_far ∙ still_not e c.loop-rest.count part parts (sym w.reads_number.ensures ∙ w.if-not-reads_number.true))
     ]
 
 pub loop-rest-preserved : goal.loop-rest-preserved
@@ -31,18 +31,18 @@ loop-rest-preserved c =
     record {
       within = omega arith;
       same =
-        c.loop-rest.invariant.same
-        ∙ ap (λ r. still_array e c.loop-rest.count (parts_left e (option_copied r))) c.in-Some.is
-        ∙ ap (still_array e c.loop-rest.count) c.split_first.ensures.parts
-        ∙ still_more e c.loop-rest.count part parts (sym c.reads_number.ensures ∙ c.if-not-reads_number.false);
+          c.loop-rest.invariant.same
+          ∙ ap (λ r. still_array e c.loop-rest.count (parts_left e (option_copied r))) c.in-Some.is
+          ∙ ap (still_array e c.loop-rest.count) c.split_first.ensures.parts
+          ∙ still_more e c.loop-rest.count part parts (sym c.reads_number.ensures ∙ c.if-not-reads_number.false);
     }
 
 pub returns : goal.returns
 returns c =
     let e = c.args.encoding in
     let so_far : spells_array e c.args.bytes.now ≡ true =
-        c.loop-rest.invariant.same
-        ∙ ap (λ r. still_array e c.loop-rest.count (parts_left e (option_copied r))) c.in_default.is
-        ∙ still_last e c.loop-rest.count c.loop-rest.invariant.within
+    c.loop-rest.invariant.same
+    ∙ ap (λ r. still_array e c.loop-rest.count (parts_left e (option_copied r))) c.in_default.is
+    ∙ still_last e c.loop-rest.count c.loop-rest.invariant.within
     in
     sym so_far

@@ -15,8 +15,8 @@ loop-rest-init c =
       short = omega (arith, short_parts e bytes c.requires);
       elements = all_elements e bytes c.requires;
       same =
-        sym (summed_first c.args.self.now (array_in e bytes))
-        ∙ ap (summed_from 0 c.args.self.now) (sym (elements_first e bytes));
+          sym (summed_first c.args.self.now (array_in e bytes))
+          ∙ ap (summed_from 0 c.args.self.now) (sym (elements_first e bytes));
     }
 
 pub loop-rest-preserved : goal.loop-rest-preserved
@@ -25,7 +25,7 @@ loop-rest-preserved c =
     let part = c.split_first.result.0.now in
     let parts = parts_left e (option_copied c.split_first.result.1) in
     let left : parts_left e (option_copied c.loop-rest.rest) ≡ part ∷ parts =
-        ap (λ r. parts_left e (option_copied r)) c.in-Some.is ∙ c.split_first.ensures.parts
+    ap (λ r. parts_left e (option_copied r)) c.in-Some.is ∙ c.split_first.ensures.parts
     in
     let short : length (parts_left e (option_copied c.loop-rest.rest)) ≡ length (part ∷ parts) = ap (λ ps. length ps) left in
     let at = c.loop-rest.at in
@@ -38,11 +38,11 @@ loop-rest-preserved c =
       short = omega arith;
       elements = tail_elements e part parts all;
       same =
-        c.loop-rest.invariant.same
-        ∙ ap (summed_from c.loop-rest.at c.loop-rest.self) (ap (elements_of e) left ∙ elements_more e part parts)
-        ∙ ap (λ z. summed_from at v (z ∷ elements_of e parts)) (element_read e part c.unwrap-number.result (head_element e part parts all) (sym c.number.ensures ∙ c.unwrap-number.ensures))
-        ∙ summed_more at v n (elements_of e parts) c.loop-rest.invariant.within
-        ∙ ap (λ w. summed_from (at + 1) w (elements_of e parts)) (sym added);
+          c.loop-rest.invariant.same
+          ∙ ap (summed_from c.loop-rest.at c.loop-rest.self) (ap (elements_of e) left ∙ elements_more e part parts)
+          ∙ ap (λ z. summed_from at v (z ∷ elements_of e parts)) (element_read e part c.unwrap-number.result (head_element e part parts all) (sym c.number.ensures ∙ c.unwrap-number.ensures))
+          ∙ summed_more at v n (elements_of e parts) c.loop-rest.invariant.within
+          ∙ ap (λ w. summed_from (at + 1) w (elements_of e parts)) (sym added);
     }
 
 pub overflow_add-at : goal.overflow_add-at
@@ -51,7 +51,7 @@ overflow_add-at c =
     let part = c.split_first.result.0.now in
     let parts = parts_left e (option_copied c.split_first.result.1) in
     let left : parts_left e (option_copied c.loop-rest.rest) ≡ part ∷ parts =
-        ap (λ r. parts_left e (option_copied r)) c.in-Some.is ∙ c.split_first.ensures.parts
+    ap (λ r. parts_left e (option_copied r)) c.in-Some.is ∙ c.split_first.ensures.parts
     in
     let short : length (parts_left e (option_copied c.loop-rest.rest)) ≡ length (part ∷ parts) = ap (λ ps. length ps) left in
     omega arith
@@ -60,8 +60,8 @@ pub returns : goal.returns
 returns c =
     let e = c.args.encoding in
     sym (
-      c.loop-rest.invariant.same
-      ∙ ap (λ r. summed_from c.loop-rest.at c.loop-rest.self (elements_of e (parts_left e (option_copied r)))) c.in_default.is
-      ∙ ap (summed_from c.loop-rest.at c.loop-rest.self) (elements_last e)
-      ∙ summed_last c.loop-rest.at c.loop-rest.self
+    c.loop-rest.invariant.same
+    ∙ ap (λ r. summed_from c.loop-rest.at c.loop-rest.self (elements_of e (parts_left e (option_copied r)))) c.in_default.is
+    ∙ ap (summed_from c.loop-rest.at c.loop-rest.self) (elements_last e)
+    ∙ summed_last c.loop-rest.at c.loop-rest.self
     )

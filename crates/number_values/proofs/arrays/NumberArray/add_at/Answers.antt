@@ -34,11 +34,11 @@ returns-else-at-len c =
     let inside : at < length items = omega arith in
     let read : is_number op.ArraySum x ≡ true = ap (is_number op.ArraySum) c.index.ensures ∙ elements_at items at x c.self.invariant inside in
     ap (set items at) (
-      element_fits c.join.result c.join.ensures.number
-      ∙ c.join.ensures.joined
-      ∙ ap (λ z. stopped_sum z (cast_signed w64 (cast_unsigned w64 n))) (element_fits x read)
-      ∙ ap (stopped_sum x) (element_fits n c.requires.number)
-      ∙ ap (λ z. stopped_sum z n) c.index.ensures
+    element_fits c.join.result c.join.ensures.number
+    ∙ c.join.ensures.joined
+    ∙ ap (λ z. stopped_sum z (cast_signed w64 (cast_unsigned w64 n))) (element_fits x read)
+    ∙ ap (stopped_sum x) (element_fits n c.requires.number)
+    ∙ ap (λ z. stopped_sum z n) c.index.ensures
     )
     ∙ sum_at at items n x inside
     ∙ ap (λ v. take at v ++ array_sum (drop at v) (n ∷ [])) seen

@@ -17,14 +17,14 @@ loop-index-preserved c =
     let inside : at < length v = c.loop-index-test.true in
     let elements : are_elements v ≡ true = subst (λ u. are_elements u ≡ true) (sym c.as_slice-number-items.ensures.value) c.self.invariant in
     let appended : c.append_number.new.text.items ≡ c.if-index-gt0.text.items ++ text_of e number =
-        c.in_ok-append_number.ensures ∙ ap (λ z. c.if-index-gt0.text.items ++ text_of e z) (element_fits number (elements_at v at (pos 0) elements inside))
+    c.in_ok-append_number.ensures ∙ ap (λ z. c.if-index-gt0.text.items ++ text_of e z) (element_fits number (elements_at v at (pos 0) elements inside))
     in
     elim c.if-index-gt0.branch [
-      then-index-gt0+in_ok-append_separator w ↦
+      | then-index-gt0+in_ok-append_separator w ↦
           appended
           ∙ ap (λ u. u ++ text_of e number) (ap (λ t. t.items) w.text-is ∙ w.in_ok-append_separator.ensures ∙ ap (λ u. u ++ separator e) c.loop-index.invariant)
           ∙ sym (text_more e v at inside w.if-index-gt0.true)
-    | else-index-gt0 w ↦
+      | else-index-gt0 w ↦
           appended
           ∙ ap (λ u. u ++ text_of e number) (ap (λ t. t.items) w.text-is ∙ c.loop-index.invariant)
           ∙ sym (text_first e v at inside (omega arith))
