@@ -35,7 +35,7 @@ element_of e part = unwrap_or (number_in e part) (pos 0)
 unfoldable pub spells_array : Encoding → List ℕ → Bool
 spells_array e bytes = nat_lt (length (parts_of e bytes)) 257 && list_all (is_element e) (parts_of e bytes)
 
--- the numbers that bytes spell
+-- the numbers that bytes spell, with 0 for a part that spells none
 unfoldable pub array_in : Encoding → List ℕ → List ℤ
 array_in e bytes = map (element_of e) (parts_of e bytes)
 
