@@ -10,10 +10,11 @@ use Rattle.number_values.specs.declared.op.Op.{Op}
 use Rattle.number_values.specs.declared.op.Encoding.TheVariants as encoding
 use Rattle.number_values.specs.declared.op.Op.TheVariants as op
 use Rattle.number_values.specs.Numbers.{number_reduction}
+use Rattle.number_values.specs.Arrays.{array_reduction, spells_array}
 use Rattle.cell_key.specs.declared.column_name.ColumnName.{ColumnName}
 use Rattle.combiners.specs.Gathers.{AreRead}
 use Rattle.cell_key.specs.Listed.{column_listed}
-use Rattle.combiners.specs.Examples.{example_names, example_cells, AreNumbers}
+use Rattle.combiners.specs.Examples.{example_names, example_cells, example_arrays, AreNumbers, AreArrays}
 
 pub example_sorted : sorted above example_cells ≡ example_cells
 unfolding sorted put above cell_cmp key_cmp time_cmp column_cmp
@@ -35,3 +36,20 @@ example_front = ((λ d l. refl), ((λ d l. refl), ((λ d l. refl), ((λ d l. ref
 pub numbers_read : (o : Op) (names own : List ColumnName) (r : Reduction) (all cells : List Cell) → names ≡ own → r ≡ number_reduction o encoding.String → all ≡ cells → AreNumbers o own cells → AreRead names r all
 unfolding AreNumbers
 numbers_read o names own r all cells n e a h = subst (λ f. AreRead f r all) (sym n) (subst (λ r. AreRead own r all) (sym e) (subst (λ l. AreRead own (number_reduction o encoding.String) l) (sym a) h))
+
+pub arrays_sorted : sorted above example_arrays ≡ example_arrays
+unfolding sorted put above cell_cmp key_cmp time_cmp column_cmp
+arrays_sorted = refl
+
+pub arrays_sums : AreArrays example_names example_arrays
+unfolding AreArrays spells_array
+arrays_sums = ((λ h. refl), ((λ h. refl), ((λ h. refl), tt)))
+
+pub arrays_front : AreInFront (column_listed example_names) [] example_arrays
+unfolding AreInFront marker_beside same_column column_cmp
+arrays_front = ((λ d l. refl), ((λ d l. refl), ((λ d l. refl), tt)))
+
+-- the same for arrays
+pub arrays_read : (names own : List ColumnName) (r : Reduction) (all cells : List Cell) → names ≡ own → r ≡ array_reduction encoding.String → all ≡ cells → AreArrays own cells → AreRead names r all
+unfolding AreArrays
+arrays_read names own r all cells n e a h = subst (λ f. AreRead f r all) (sym n) (subst (λ r. AreRead own r all) (sym e) (subst (λ l. AreRead own (array_reduction encoding.String) l) (sym a) h))

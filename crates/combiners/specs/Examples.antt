@@ -4,6 +4,7 @@ use Rattle.tablet_model.specs.Cell.{Cell, CellKey}
 use Rattle.number_values.specs.declared.op.Op.{Op}
 use Rattle.number_values.specs.declared.op.Encoding.TheVariants as encoding
 use Rattle.number_values.specs.Numbers.{number_reduction}
+use Rattle.number_values.specs.Arrays.{array_reduction}
 use Rattle.combiners.specs.Gathers.{AreRead}
 use Rattle.cell_key.specs.declared.column_name.ColumnName.{ColumnName}
 
@@ -37,3 +38,15 @@ example_cells =
 -- the values in the listed columns are decimal numbers of the operation
 unfoldable pub AreNumbers : Op → List ColumnName → List Cell → Type 0
 AreNumbers o names cells = AreRead names (number_reduction o encoding.String) cells
+
+-- entries of one column, in order
+abbrev pub example_arrays : List Cell
+example_arrays =
+    example (codes "1") (codes "s") (codes "x") (pos 9) false (codes "4,6,5")
+    ∷ example (codes "1") (codes "s") (codes "x") (pos 7) false (codes "1")
+    ∷ example (codes "1") (codes "s") (codes "x") (pos 5) false (codes "0,0,0,7")
+    ∷ []
+
+-- the values in the listed columns are decimal arrays
+unfoldable pub AreArrays : List ColumnName → List Cell → Type 0
+AreArrays names cells = AreRead names (array_reduction encoding.String) cells

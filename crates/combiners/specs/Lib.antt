@@ -4,4 +4,5 @@ pub mod CombineStages
 pub mod CombineParts
 pub mod Joins
 pub mod LongParts
+pub mod ArrayParts
 pub mod Examples

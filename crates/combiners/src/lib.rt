@@ -1,6 +1,7 @@
 // Combiners: the values of a listed column become one, over any source and by any reducer.
 #![tactic(auto)]
 
+mod array_reducer;
 mod combine_iter;
 mod gather;
 mod long_reducer;
@@ -8,6 +9,7 @@ mod reducer;
 mod stage;
 mod steps;
 
+pub use array_reducer::ArrayReducer;
 pub use combine_iter::CombineIter;
 pub use long_reducer::LongReducer;
 pub use reducer::Reducer;

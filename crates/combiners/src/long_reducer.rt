@@ -72,7 +72,7 @@ impl Reducer for LongReducer {
     ghost lawful = { long_lawful };
 
     fn reads(&self, bytes: &[u8]) -> bool {
-        self.op.reads(self.encoding, bytes)
+        self.op.reads_number(self.encoding, bytes)
     }
 
     fn start(&mut self, first: &[u8]) -> Result<(), NoMemory> {

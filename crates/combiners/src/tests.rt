@@ -7,7 +7,7 @@ ghost use Rattle.tablet_model.specs.Reading.{AreInFront};
 ghost use Rattle.cell_key.specs.Views.{key_of};
 ghost use Rattle.cell_key.specs.RowBounds.{HasShortRow};
 ghost use Rattle.cell_key.specs.Listed.{column_listed};
-ghost use Rattle.combiners.specs.Examples.{example_key, example_names, example_cells, AreNumbers};
+ghost use Rattle.combiners.specs.Examples.{example_key, example_names, example_cells, example_arrays, AreNumbers, AreArrays};
 
 use super::*;
 use cell_key::{
@@ -99,6 +99,38 @@ fn entries(alloc: Global) -> Result<Entries, Fail>
     Ok(entries)
 }
 
+/// Entries of one column, whose values are arrays.
+fn listed_arrays(alloc: Global) -> Result<Entries, Fail>
+    ensures { IfOk result (λ entries. entries ≡ example_arrays) }
+{
+    let mut entries = Entries::new(alloc);
+    add(
+        alloc,
+        &mut entries,
+        key(b"1", b"s", b"x", 9, false),
+        b"4,6,5",
+    )?;
+    add(alloc, &mut entries, key(b"1", b"s", b"x", 7, false), b"1")?;
+    add(
+        alloc,
+        &mut entries,
+        key(b"1", b"s", b"x", 5, false),
+        b"0,0,0,7",
+    )?;
+    Ok(entries)
+}
+
+/// The same, sorted.
+fn array_entries(alloc: Global) -> Result<Entries, Fail>
+    ensures ascends { IfOk result (Ascends above) }
+    ensures arrays { IfOk result (AreArrays example_names) }
+    ensures in_front { IfOk result (AreInFront (column_listed example_names) []) }
+{
+    let mut entries = listed_arrays(alloc)?;
+    entries.sort()?;
+    Ok(entries)
+}
+
 /// The keys from a start to an end.
 fn range<'a>(start: Bound<'a>, end: Bound<'a>) -> Range<'a>
     requires start { HasShortRow start }
@@ -146,6 +178,28 @@ fn combined_in(
     let reducer = LongReducer::new(op, Encoding::String);
     let combined = CombineIter::new(alloc, source, Arc::try_clone(names)?, reducer)?;
     left_in(alloc, &combined, range)
+}
+
+/// What is left of entries whose arrays are added.
+fn added_in(alloc: Global, entries: &Arc<Entries>, names: &Arc<Columns>) -> Result<String, Fail>
+    requires ascends { Ascends above (arc_value entries.now) }
+    requires read { AreArrays (arc_value names.now) (arc_value entries.now) }
+    requires in_front { AreInFront (column_listed (arc_value names.now)) [] (arc_value entries.now) }
+{
+    let source = VecSource::new(Arc::try_clone(entries)?);
+    let reducer = ArrayReducer::new(alloc, Encoding::String)?;
+    let added = CombineIter::new(alloc, source, Arc::try_clone(names)?, reducer)?;
+    left_in(alloc, &added, &range(Bound::Open, Bound::Open))
+}
+
+#[test]
+fn arrays_are_added(rt: HostRuntime) -> Result<(), Fail> {
+    let alloc = rt.alloc();
+    let entries = Arc::new(alloc, array_entries(alloc)?)?;
+    let names = Arc::new(alloc, columns(alloc)?)?;
+    let left = added_in(alloc, &entries, &names)?;
+    assert_eq!(rt; left.as_str(), "1sx9=5,6,5,7 ");
+    Ok(())
 }
 
 #[test]

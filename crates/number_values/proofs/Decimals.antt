@@ -13,10 +13,10 @@ use Rattle.std.proofs.lemmas.Str.Ascii.{IsAscii-nil}
 use Rattle.std.proofs.lemmas.Fmt.{IsAscii-from_digits, length_signed_le, parse-signed_decimal}
 use Rattle.number_values.specs.Numbers.{is_long, are_digits, decimal_in}
 
-digit_words : IsNumeralModel (λ ds. all_ascii_digits ds ≡ true) (digits_value 10)
+pub digit_words : IsNumeralModel (λ ds. all_ascii_digits ds ≡ true) (digits_value 10)
 digit_words = numerals_by_value (λ ds. all_ascii_digits ds ≡ true) tells_all_ascii_digits
 
-below : (a b : ℕ) → nat_lt a b ≡ true → a < b
+pub below : (a b : ℕ) → nat_lt a b ≡ true → a < b
 below a b h = grind arith
 
 less : (a b : ℕ) → a < b → nat_lt a b ≡ true

@@ -26,7 +26,7 @@ min_assoc a b c = omega (arith, ints, clamps)
 max_assoc : (a b c : ℤ) → int_max (int_max a b) c ≡ int_max a (int_max b c)
 max_assoc a b c = omega (arith, ints, clamps)
 
-sum_comm : (a b : ℤ) → stopped_sum a b ≡ stopped_sum b a
+pub sum_comm : (a b : ℤ) → stopped_sum a b ≡ stopped_sum b a
 sum_comm a b = omega (arith, ints, clamps)
 
 sum_assoc : (a b c : ℕ) → stopped_sum (stopped_sum (pos a) (pos b)) (pos c) ≡ stopped_sum (pos a) (stopped_sum (pos b) (pos c))
@@ -47,7 +47,7 @@ stopped_below m n = go (nat_lt 9223372036854775807 (m + n)) refl
     go true h = refl
     go false h = not_above (m + n) h
 
-joined_is : (o : Op) (a b : ℤ) → is_number o a ≡ true → is_number o b ≡ true → is_number o (joined_number o a b) ≡ true
+pub joined_is : (o : Op) (a b : ℤ) → is_number o a ≡ true → is_number o b ≡ true → is_number o (joined_number o a b) ≡ true
 joined_is op.Min a b h k = chosen op.Min _ b a k h
 joined_is op.Max a b h k = chosen op.Max _ a b h k
 joined_is op.Sum (pos m) (pos n) h k = stopped_below m n
@@ -63,7 +63,7 @@ joined_comm op.Max a b = max_comm a b
 joined_comm op.Sum a b = sum_comm a b
 joined_comm op.ArraySum a b = sum_comm a b
 
-sums_assoc : (a b c : ℤ) → is_number op.Sum a ≡ true → is_number op.Sum b ≡ true → is_number op.Sum c ≡ true → stopped_sum (stopped_sum a b) c ≡ stopped_sum a (stopped_sum b c)
+pub sums_assoc : (a b c : ℤ) → is_number op.Sum a ≡ true → is_number op.Sum b ≡ true → is_number op.Sum c ≡ true → stopped_sum (stopped_sum a b) c ≡ stopped_sum a (stopped_sum b c)
 sums_assoc (pos a) (pos b) (pos c) h k l = sum_assoc a b c
 sums_assoc (negsuc a) b c h k l = let no : false ≡ true = h in cc
 sums_assoc (pos a) (negsuc b) c h k l = let no : false ≡ true = k in cc
@@ -90,11 +90,11 @@ fixed_back z h = ap (λ n. Some (cast_signed w64 n)) (from_be_bytes-to_be_bytes_
     bits (pos n) h = omega (arith, below n (2 ^ 63) h)
     bits (negsuc n) h = omega arith
 
-text_back : (e : Encoding) (z : ℤ) → is_long z ≡ true → number_in e (text_of e z) ≡ Some z
+pub text_back : (e : Encoding) (z : ℤ) → is_long z ≡ true → number_in e (text_of e z) ≡ Some z
 text_back encoding.Fixed z h = fixed_back z h
 text_back encoding.String z h = decimal_back z h
 
-number_long : (o : Op) (z : ℤ) → is_number o z ≡ true → is_long z ≡ true
+pub number_long : (o : Op) (z : ℤ) → is_number o z ≡ true → is_long z ≡ true
 number_long op.Min z h = h
 number_long op.Max z h = h
 number_long op.Sum (pos n) h = h

@@ -1,5 +1,8 @@
 ghost use Rattle.std.specs.Prelude.{◌≡◌, true};
 ghost use Rattle.number_values.specs.Numbers.{is_number, is_some_number, number_in, joined_number};
+ghost use Rattle.number_values.specs.Values.{reduction_of};
+
+use crate::arrays::spells_array;
 
 /// What a combiner makes of the numbers of a column, as Accumulo's combiners of these names.
 #[derive(Clone, Copy, PartialEq, Eq, Debug)]
@@ -34,8 +37,20 @@ impl Op {
         }
     }
 
-    /// Whether the bytes spell a number that it is for. It takes no memory.
+    /// Whether the bytes spell a value that it is for: a number, or an array of numbers for their sum. It takes no
+    /// memory.
+    #[tactic(auto, unfolding(crate::specs::Values::reduction_of))]
     pub fn reads(self, encoding: Encoding, bytes: &[u8]) -> bool
+        ensures { result ≡ (reduction_of self encoding).reads bytes.now }
+    {
+        match self {
+            Op::ArraySum => spells_array(encoding, bytes),
+            Op::Sum | Op::Min | Op::Max => self.reads_number(encoding, bytes),
+        }
+    }
+
+    /// Whether the bytes spell a number that it is for, or for an array sum one of the array's. It takes no memory.
+    pub fn reads_number(self, encoding: Encoding, bytes: &[u8]) -> bool
         ensures { result ≡ is_some_number self (number_in encoding bytes.now) }
     {
         match encoding.number(bytes) {
