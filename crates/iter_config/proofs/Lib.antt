@@ -1,4 +1,5 @@
 pub mod Views
 pub mod Ordering
 pub mod Repeats
+pub mod OnLiterals
 pub mod Examples

@@ -1,17 +1,22 @@
 -- What a table and an array of the code are, beside the words for documents.
-use Rattle.std.proofs.Common.{◌≡◌, ◌≢◌, ℕ, Bool, true, false, cond, ◌&&◌, ◌||◌, List, [], ◌∷◌, ◌++◌, map, length, get_or, Some, None, Result, Ok, Err, String, Global, Bor, string_bytes, refl, ◌∙◌, ap, arith}
+use Rattle.std.proofs.Common.{◌≡◌, ℕ, Bool, true, false, cond, ◌&&◌, ◌||◌, List, [], ◌∷◌, ◌++◌, map, length, Option, Some, None, Result, Ok, Err, String, Global, Bor, string_bytes, refl, ◌∙◌, ap, arith}
 use Rattle.std.specs.List.{list_all, list_any}
 use Rattle.std.specs.Map.{keys_of}
 use Rattle.std.specs.Str.{bytes_eq, is_utf8, IsUtf8}
 use Rattle.std.proofs.lemmas.Str.{IsUtf8-from_is_utf8, is_utf8-from_IsUtf8}
 use Rattle.toml.specs.Data.{Members}
 use Rattle.toml.specs.Parse.{parse_document}
-use Rattle.toml.specs.View.{items_view, members_view, view}
+use Rattle.toml.specs.View.{items_view, members_view}
 use Rattle.toml.specs.declared.value.Value.{Value}
 use Rattle.iter_config.specs.Faults.{Fault}
-use Rattle.iter_config.specs.Fields.{is_among, keys_within, only_item}
+use Rattle.iter_config.specs.Fields.{is_among, keys_within}
 use Rattle.iter_config.specs.Document.{count_items, document_of}
 use Rattle.iter_config.specs.declared.iter_spec.IterSpec.{IterSpec}
+
+-- what was read in front of what is still to be read
+abbrev pub with_all : {A : Type 0} → List A → Option (List A) → Option (List A)
+with_all xs None = None
+with_all xs (Some ys) = Some (xs ++ ys)
 
 -- iterators in front of those that are still to be read
 abbrev pub with_iterators : List IterSpec → Result (List IterSpec) Fault → Result (List IterSpec) Fault
@@ -43,15 +48,3 @@ no_document bytes h =
       | true ↦ λ e. h (IsUtf8-from_is_utf8 bytes e)
       | false ↦ λ e. refl
     ] in by_answer (is_utf8 bytes) refl
-
--- an array of more items or none has no only item
-pub none_of : (vs : List Value) → length vs ≢ 1 → only_item (items_view vs) ≡ None
-none_of [] h = refl
-none_of (v ∷ []) h = absurd (h refl)
-none_of (v ∷ w ∷ vs) h = refl
-
--- an array of one item
-pub first_of : (vs : List Value) (d : Value) → length vs ≡ 1 → only_item (items_view vs) ≡ Some (view (get_or vs 0 d))
-first_of [] d h = absurd (omega arith)
-first_of (v ∷ []) d h = refl
-first_of (v ∷ w ∷ vs) d h = absurd (omega arith)

@@ -1,15 +1,16 @@
 -- The configuration that a document is, or the first rule that it breaks. All of this is this project's own; the text is TOML.
-use Rattle.std.specs.Prelude.{ℕ, ◌+◌, nat_le, if◌then◌else◌, List, [], ◌∷◌, Option, Some, None, codes, Result, Ok, Err}
+use Rattle.std.specs.Prelude.{ℕ, ◌+◌, nat_le, if◌then◌else◌, List, [], ◌∷◌, map, Option, Some, None, codes, Result, Ok, Err}
 use Rattle.std.specs.Str.{is_utf8}
 use Rattle.toml.specs.Data.{Data, Items, no_items, item, Members, as_array, get_member}
 use Rattle.toml.specs.Parse.{parse_document}
 use Rattle.iter_config.specs.Faults.{Fault, fault}
 use Rattle.iter_config.specs.Fields.{keys_within}
 use Rattle.iter_config.specs.Iterators.{iterators_from}
-use Rattle.iter_config.specs.Order.{first_repeat, in_priority_order, same_name, same_priority}
+use Rattle.iter_config.specs.Order.{in_priority_order}
+use Rattle.iter_config.specs.Rules.{first_breaking, first_repeat, first_unscanned}
 use Rattle.iter_config.specs.declared.iter_spec.IterSpec.{IterSpec}
 use Rattle.iter_config.specs.declared.error.Rule.{Rule}
-use Rattle.iter_config.specs.declared.error.Rule.TheVariants.{Toml, Field, Name, Priority}
+use Rattle.iter_config.specs.declared.error.Rule.TheVariants.{Toml, Field, Name, Priority, NoScan, NotPrefix, Order, Overlap, FullUnderVersions}
 
 -- the document of some bytes, which have to be UTF-8
 abbrev pub document_of : List ℕ → Option Members
@@ -40,12 +41,26 @@ abbrev pub broken_by : Rule → Option ℕ → Result (List IterSpec) Fault → 
 broken_by rule None next = next
 broken_by rule (Some n) next = Err (fault rule n)
 
--- the configuration of iterators: no two share a name or a priority
+-- the configuration of iterators in priority order, whose document has these priorities
+unfoldable pub in_order : List ℕ → List IterSpec → Result (List IterSpec) Fault
+in_order priorities specs =
+    broken_by NoScan (first_unscanned priorities specs)
+    (broken_by NotPrefix (first_breaking NotPrefix priorities specs)
+    (broken_by Order (first_breaking Order priorities specs)
+    (broken_by Overlap (first_breaking Overlap priorities specs)
+    (broken_by FullUnderVersions (first_breaking FullUnderVersions priorities specs)
+    (Ok specs)))))
+
+-- the priorities of some iterators
+abbrev pub priorities_of : List IterSpec → List ℕ
+priorities_of specs = map (λ s. s.priority) specs
+
+-- the configuration of iterators: no two share a name or a priority, and in priority order they keep the other rules
 unfoldable pub accepted : List IterSpec → Result (List IterSpec) Fault
 accepted specs =
-    broken_by Name (first_repeat same_name [] 1 specs)
-    (broken_by Priority (first_repeat same_priority [] 1 specs)
-    (Ok (in_priority_order specs)))
+    broken_by Name (first_repeat Name specs)
+    (broken_by Priority (first_repeat Priority specs)
+    (in_order (priorities_of specs) (in_priority_order specs)))
 
 -- the configuration of iterators that were read
 abbrev pub config_from : Result (List IterSpec) Fault → Result (List IterSpec) Fault

@@ -1,17 +1,16 @@
 -- The iterators that tables describe. The fields are this project's own.
-use Rattle.std.specs.Prelude.{ℕ, ◌+◌, ◌≤◌, if◌then◌else◌, List, [], ◌∷◌, Option, Some, None, codes, Result, Ok, Err}
+use Rattle.std.specs.Prelude.{ℕ, ◌+◌, if◌then◌else◌, List, [], ◌∷◌, Option, Some, None, codes, Result, Ok, Err}
 use Rattle.std.specs.Str.{bytes_eq}
 use Rattle.toml.specs.Data.{Data, Items, no_items, item, Members, as_str, as_table, get_member}
 use Rattle.iter_config.specs.Faults.{◌>>=◌, Fault, fault}
-use Rattle.iter_config.specs.Fields.{keys_within, name_in, number_in, scopes_in}
+use Rattle.number_values.specs.declared.op.Op.{Op}
+use Rattle.iter_config.specs.Combiners.{combiner_of, op_of}
+use Rattle.iter_config.specs.Fields.{keys_within, name_in, number_in, scopes_in, shared_keys}
+use Rattle.iter_config.specs.Filters.{filter_of}
 use Rattle.iter_config.specs.declared.iter_spec.Kind.{Kind}
 use Rattle.iter_config.specs.declared.iter_spec.Kind.TheVariants.{Versions}
 use Rattle.iter_config.specs.declared.iter_spec.IterSpec.{IterSpec}
 use Rattle.iter_config.specs.declared.error.Rule.TheVariants.{Field}
-
--- the fields that each iterator has
-abbrev pub shared_keys : List (List ℕ)
-shared_keys = codes "name" ∷ codes "priority" ∷ codes "kind" ∷ codes "scopes" ∷ []
 
 -- `max` versions of each column, and no other field
 unfoldable pub versions_of : Members → Option Kind
@@ -19,9 +18,14 @@ versions_of ms = do
   max ← get_member (codes "max") ms >>= number_in 1 1000
   if keys_within (codes "max" ∷ shared_keys) ms then Some (Versions max) else None
 
+-- a combiner of an operation, or else a filter
+abbrev pub combiner_or_filter : Option Op → List ℕ → Members → Option Kind
+combiner_or_filter (Some op) word ms = combiner_of op ms
+combiner_or_filter None word ms = filter_of word ms
+
 -- what the iterator of a table does, by the word of its kind
 unfoldable pub kind_of : List ℕ → Members → Option Kind
-kind_of word ms = if bytes_eq word (codes "versions") then versions_of ms else None
+kind_of word ms = if bytes_eq word (codes "versions") then versions_of ms else combiner_or_filter (op_of word) word ms
 
 -- the iterator that a table describes
 unfoldable pub iterator_of : Data → Option IterSpec
@@ -48,7 +52,3 @@ numbered n (Some spec) rest = in_front spec rest
 abbrev pub iterators_from : ℕ → Items → Result (List IterSpec) Fault
 iterators_from n no_items = Ok []
 iterators_from n (item d ds) = numbered n (iterator_of d) (iterators_from (n + 1) ds)
-
--- the numbers of a kind are within its fields' limits
-abbrev pub IsLimited : Kind → Type 0
-IsLimited (Versions max) = (1 ≤ max) × (max ≤ 1000)

@@ -1,7 +1,14 @@
 pub mod Faults
 pub mod Fields
+pub mod Names
+pub mod Filters
+pub mod Combiners
 pub mod Iterators
+pub mod Limits
+pub mod Rules
 pub mod Order
 pub mod Document
 pub mod Predicates
 pub mod Stages
+pub mod Columns
+pub mod RulesOf

@@ -1,25 +1,11 @@
--- Iterators beside each other: their names, and the order of their priorities.
-use Rattle.std.specs.Prelude.{ℕ, ◌+◌, Bool, ◌==◌, nat_lt, if◌then◌else◌, List, [], ◌∷◌, ◌++◌, All, Option, Some, None}
-use Rattle.std.specs.List.{IsDistinct, list_any}
+-- The order of priorities, and what configurations keep.
+use Rattle.std.specs.Prelude.{◌≡◌, ℕ, Bool, true, nat_lt, List, All}
+use Rattle.std.specs.List.{IsDistinct}
 use Rattle.std.specs.List.Sorted.{IsNonDecreasingBy}
-use Rattle.std.specs.Str.{bytes_eq}
 use Rattle.tablet_model.specs.Sorted.{sorted}
-use Rattle.iter_config.specs.Iterators.{IsLimited}
+use Rattle.iter_config.specs.Limits.{IsLimited}
+use Rattle.iter_config.specs.Rules.{is_full_under_versions, leaves_gap, out_of_order, same_name, same_priority, shares_column}
 use Rattle.iter_config.specs.declared.iter_spec.IterSpec.{IterSpec}
-
--- two iterators have one name
-abbrev pub same_name : IterSpec → IterSpec → Bool
-same_name s t = bytes_eq s.name t.name
-
--- two iterators have one priority
-abbrev pub same_priority : IterSpec → IterSpec → Bool
-same_priority s t = s.priority == t.priority
-
--- the number of the first iterator that is the same as one before it, where those behind `before` are numbered from n
-abbrev pub first_repeat : (IterSpec → IterSpec → Bool) → List IterSpec → ℕ → List IterSpec → Option ℕ
-first_repeat same before n [] = None
-first_repeat same before n (s ∷ ss) =
-    if list_any (λ t. same t s) before then Some n else first_repeat same (before ++ s ∷ []) (n + 1) ss
 
 -- an iterator runs behind another (Accumulo: the one with the higher priority number)
 abbrev pub runs_behind : IterSpec → IterSpec → Bool
@@ -29,9 +15,20 @@ runs_behind s t = nat_lt t.priority s.priority
 abbrev pub in_priority_order : List IterSpec → List IterSpec
 in_priority_order specs = sorted runs_behind specs
 
--- what each configuration keeps: no name and no priority twice, the order of priorities, and the fields' limits
+-- no iterator breaks a rule with one that stands before it
+abbrev pub NoneClashes : (IterSpec → IterSpec → Bool) → List IterSpec → Type 0
+NoneClashes clash specs = IsDistinct clash specs
+
+-- what each configuration keeps (this project's rules): the fields' limits; no name and no priority twice; the order of priorities; all
+-- run in scans; those of minor and of major compactions come first; the order of those; no column is combined twice; no versions in
+-- major compactions behind a combiner of columns with deletes
 pub record IsConfig (specs : List IterSpec) : Type 0 where
-  pub names : IsDistinct same_name specs
-  pub priorities : IsDistinct same_priority specs
-  pub order : IsNonDecreasingBy (λ s. s.priority) specs
   pub limits : All (λ s. IsLimited s.kind) specs
+  pub names : NoneClashes same_name specs
+  pub priorities : NoneClashes same_priority specs
+  pub order : IsNonDecreasingBy (λ s. s.priority) specs
+  pub scans : All (λ s. s.scopes.scan ≡ true) specs
+  pub prefixes : NoneClashes leaves_gap specs
+  pub base_order : NoneClashes out_of_order specs
+  pub apart : NoneClashes shares_column specs
+  pub not_newest : NoneClashes is_full_under_versions specs

@@ -1,14 +1,15 @@
-ghost use Rattle.std.specs.Prelude.{◌≡◌, ◌↔◌, ◌<◌, IsTrue, All, Some, length, slice_get, IfOk};
-ghost use Rattle.std.specs.List.{IsDistinct};
-ghost use Rattle.iter_config.specs.Iterators.{IsLimited};
-ghost use Rattle.iter_config.specs.Order.{IsConfig, in_priority_order, same_name, same_priority};
+ghost use Rattle.std.specs.Prelude.{◌≡◌, ◌↔◌, ◌<◌, IsTrue, Some, length, slice_get};
+ghost use Rattle.std.specs.List.{list_all, list_any};
+ghost use Rattle.iter_config.specs.Columns.{kind_reads, kind_refuses, reads_value, refuses_delete};
+ghost use Rattle.iter_config.specs.Limits.{IsLimited};
+ghost use Rattle.iter_config.specs.Order.{IsConfig};
 
-use crate::iter_spec::{IterSpec, Kind};
-use cell_key::NoMemory;
+use crate::equality::same_iterators;
+use crate::iter_spec::{Deletes, IterSpec, Kind};
 use std::marker::Model;
 
-/// A configuration: iterators in priority order, of which no two share a name or a priority. Contracts see the
-/// list of its iterators.
+/// A configuration: iterators in priority order, which keep each [`Rule`](crate::Rule). Contracts see the list of its
+/// iterators.
 #[derive(Drop)]
 pub struct Config {
     iterators: Vec<IterSpec>,
@@ -28,15 +29,12 @@ impl Model for Config {
 }
 
 impl Config {
-    /// The configuration of these iterators.
-    pub(crate) fn in_order(mut iterators: Vec<IterSpec>) -> Result<Config, NoMemory>
-        requires names { IsDistinct same_name iterators.items }
-        requires priorities { IsDistinct same_priority iterators.items }
-        requires limits { All (λ s. IsLimited s.kind) iterators.items }
-        ensures { IfOk result (λ config. config ≡ in_priority_order iterators.items) }
+    /// The configuration of these iterators. It takes no memory.
+    pub(crate) fn of(iterators: Vec<IterSpec>) -> Config
+        requires { IsConfig iterators.items }
+        ensures { result ≡ iterators.items }
     {
-        iterators.sort_by_key(|spec| spec.priority)?;
-        Ok(Config { iterators })
+        Config { iterators }
     }
 
     /// The number of iterators. It takes no memory.
@@ -62,36 +60,67 @@ impl Config {
     {
         same_iterators(&self.iterators, &other.iterators)
     }
+
+    /// Whether a delete of the columns of this family and qualifier is to be refused: a combiner of deletes `none`
+    /// lists them. It takes no memory.
+    pub fn refuses_delete(&self, family: &[u8], qualifier: &[u8]) -> bool
+        ensures { result ≡ refuses_delete self.now family.now qualifier.now }
+    {
+        refuses_delete(&self.iterators, family, qualifier)
+    }
+
+    /// Whether the value may stand in the columns of this family and qualifier: false exactly where a combiner lists
+    /// them and its encoding doesn't read the value. It takes no memory.
+    pub fn reads(&self, family: &[u8], qualifier: &[u8], value: &[u8]) -> bool
+        ensures { result ≡ reads_value self.now family.now qualifier.now value.now }
+    {
+        reads_value(&self.iterators, family, qualifier, value)
+    }
 }
 
-/// Whether two lists of iterators are equal.
-fn same_iterators(a: &[IterSpec], b: &[IterSpec]) -> bool
-    ensures { IsTrue result ↔ (a.now ≡ b.now) }
+/// Whether a combiner without deletes combines these columns.
+fn kind_refuses(kind: &Kind, family: &[u8], qualifier: &[u8]) -> bool
+    ensures { result ≡ kind_refuses family.now qualifier.now kind.now }
 {
-    if a.len() != b.len() {
-        return false;
+    match kind {
+        Kind::Combine {
+            columns,
+            deletes,
+            ..
+        } => *deletes == Deletes::None && columns.lists(family, qualifier),
+        Kind::Filter { .. } | Kind::Versions { .. } => false,
     }
-    for i in 0..a.len() {
-        if !same_iterator(&a[i], &b[i]) {
-            return false;
-        }
-    }
-    true
 }
 
-fn same_iterator(a: &IterSpec, b: &IterSpec) -> bool
-    ensures { IsTrue result ↔ (a.now ≡ b.now) }
+#[tactic(auto, unfolding(crate::specs::Columns::refuses_delete))]
+fn refuses_delete(iterators: &[IterSpec], family: &[u8], qualifier: &[u8]) -> bool
+    ensures { result ≡ refuses_delete iterators.now family.now qualifier.now }
 {
-    a.name.bytes() == b.name.bytes()
-        && a.priority == b.priority
-        && same_kind(&a.kind, &b.kind)
-        && a.scopes == b.scopes
+    iterators
+        .iter()
+        .any(|spec| kind_refuses(&spec.kind, family, qualifier))
 }
 
-fn same_kind(a: &Kind, b: &Kind) -> bool
-    ensures { IsTrue result ↔ (a.now ≡ b.now) }
+/// Whether the value is read by a combiner of these columns, or is of no combiner.
+fn kind_reads(kind: &Kind, family: &[u8], qualifier: &[u8], value: &[u8]) -> bool
+    ensures { result ≡ kind_reads family.now qualifier.now value.now kind.now }
 {
-    match (a, b) {
-        (Kind::Versions { max: m }, Kind::Versions { max: n }) => m == n,
+    match kind {
+        Kind::Combine {
+            op,
+            columns,
+            encoding,
+            ..
+        } => !columns.lists(family, qualifier) || op.reads(*encoding, value),
+        Kind::Filter { .. } | Kind::Versions { .. } => true,
     }
+}
+
+#[tactic(auto, unfolding(crate::specs::Columns::reads_value))]
+fn reads_value(iterators: &[IterSpec], family: &[u8], qualifier: &[u8], value: &[u8]) -> bool
+    ensures { result ≡ reads_value iterators.now family.now qualifier.now value.now }
+{
+    iterators
+        .iter()
+        .all(|spec| kind_reads(&spec.kind, family, qualifier, value))
 }

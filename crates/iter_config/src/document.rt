@@ -1,17 +1,20 @@
-ghost use Rattle.std.specs.Prelude.{◌≡◌, ◌≤◌, [], IfOk, All, length};
-ghost use Rattle.std.specs.List.{list_any};
-ghost use Rattle.std.specs.Str.{bytes_eq};
+ghost use Rattle.std.specs.Prelude.{◌≡◌, ◌≤◌, IfOk, All, length};
+ghost use Rattle.std.specs.List.Sorted.{IsNonDecreasingBy};
 ghost use Rattle.toml.specs.View.{table_view};
+ghost use Rattle.iter_config.specs.Document.{accepted, config_from, config_of, in_order, iterators_of, priorities_of};
 ghost use Rattle.iter_config.specs.Faults.{Reads};
-ghost use Rattle.iter_config.specs.Document.{accepted, config_from, config_of, iterators_of};
-ghost use Rattle.iter_config.specs.Iterators.{IsLimited};
-ghost use Rattle.iter_config.specs.Order.{first_repeat, same_name, same_priority};
+ghost use Rattle.iter_config.specs.Limits.{IsLimited};
+ghost use Rattle.iter_config.specs.Order.{NoneClashes, in_priority_order};
+ghost use Rattle.iter_config.specs.Rules.{same_name, same_priority};
+ghost use Rattle.iter_config.specs.declared.error.ConfigError.TheVariants as error;
 
 use crate::config::Config;
 use crate::error::{ConfigError, Rule};
 use crate::fields::{find, has_only};
 use crate::iter_spec::IterSpec;
 use crate::iterators::{MAX_ITERATORS, iterators_in};
+use crate::rules::{first_breaking, first_repeat, first_unscanned};
+use cell_key::NoMemory;
 use std::alloc::Global;
 use toml::value::Table;
 
@@ -38,66 +41,82 @@ fn iterators_of(alloc: Global, table: &Table) -> Result<Vec<IterSpec>, ConfigErr
     }
 }
 
-fn has_name(iterators: &[IterSpec], spec: &IterSpec) -> bool
-    ensures { result ≡ list_any (λ t. same_name t spec.now) iterators.now }
+/// The priorities of some iterators, as they stand there.
+fn priorities_of(alloc: Global, iterators: &[IterSpec]) -> Result<Vec<u32>, NoMemory>
+    ensures { IfOk result (λ v. v.items ≡ priorities_of iterators.now) }
 {
-    iterators
-        .iter()
-        .any(|t| t.name.bytes() == spec.name.bytes())
-}
-
-fn has_priority(iterators: &[IterSpec], spec: &IterSpec) -> bool
-    ensures { result ≡ list_any (λ t. same_priority t spec.now) iterators.now }
-{
-    iterators.iter().any(|t| t.priority == spec.priority)
-}
-
-/// The number of the first iterator that has the name of one before it.
-fn first_repeated_name(iterators: &[IterSpec]) -> Option<u32>
-    requires { length iterators.now ≤ MAX_ITERATORS }
-    ensures { result ≡ first_repeat same_name [] 1 iterators.now }
-{
-    for i in 0..iterators.len() {
-        if has_name(&iterators[..i], &iterators[i]) {
-            return Some(i as u32 + 1);
-        }
+    let mut priorities = Vec::new(alloc);
+    for spec in iterators {
+        priorities.push(spec.priority)?;
     }
-    None
+    Ok(priorities)
 }
 
-/// The number of the first iterator that has the priority of one before it.
-fn first_repeated_priority(iterators: &[IterSpec]) -> Option<u32>
-    requires { length iterators.now ≤ MAX_ITERATORS }
-    ensures { result ≡ first_repeat same_priority [] 1 iterators.now }
+fn broken(rule: Rule, at: u32) -> ConfigError
+    ensures { result ≡ error.Refused rule at }
 {
-    for i in 0..iterators.len() {
-        if has_priority(&iterators[..i], &iterators[i]) {
-            return Some(i as u32 + 1);
-        }
-    }
-    None
+    ConfigError::Refused { rule, at }
 }
 
-/// The configuration of iterators, if no two share a name or a priority.
+/// The iterators in the order in which they run.
+fn in_priority_order(mut iterators: Vec<IterSpec>) -> Result<Vec<IterSpec>, NoMemory>
+    requires limits { All (λ s. IsLimited s.kind) iterators.items }
+    requires names { NoneClashes same_name iterators.items }
+    requires priorities { NoneClashes same_priority iterators.items }
+    ensures sorted { IfOk result (λ v. v.items ≡ in_priority_order iterators.items) }
+    ensures limits { IfOk result (λ v. All (λ s. IsLimited s.kind) v.items) }
+    ensures names { IfOk result (λ v. NoneClashes same_name v.items) }
+    ensures priorities { IfOk result (λ v. NoneClashes same_priority v.items) }
+    ensures order { IfOk result (λ v. IsNonDecreasingBy (λ s. s.priority) v.items) }
+{
+    iterators.sort_by_key(|spec| spec.priority)?;
+    Ok(iterators)
+}
+
+/// The configuration of iterators in priority order, whose document has these priorities.
+#[tactic(auto, unfolding(crate::specs::Document::in_order))]
+fn in_order(priorities: &[u32], iterators: Vec<IterSpec>) -> Result<Config, ConfigError>
+    requires few { length priorities.now ≤ MAX_ITERATORS }
+    requires limits { All (λ s. IsLimited s.kind) iterators.items }
+    requires names { NoneClashes same_name iterators.items }
+    requires priorities { NoneClashes same_priority iterators.items }
+    requires order { IsNonDecreasingBy (λ s. s.priority) iterators.items }
+    ensures { Reads (λ c. c) (in_order priorities.now iterators.items) result }
+{
+    if let Some(at) = first_unscanned(priorities, &iterators) {
+        return Err(broken(Rule::NoScan, at));
+    }
+    if let Some(at) = first_breaking(Rule::NotPrefix, priorities, &iterators) {
+        return Err(broken(Rule::NotPrefix, at));
+    }
+    if let Some(at) = first_breaking(Rule::Order, priorities, &iterators) {
+        return Err(broken(Rule::Order, at));
+    }
+    if let Some(at) = first_breaking(Rule::Overlap, priorities, &iterators) {
+        return Err(broken(Rule::Overlap, at));
+    }
+    if let Some(at) = first_breaking(Rule::FullUnderVersions, priorities, &iterators) {
+        return Err(broken(Rule::FullUnderVersions, at));
+    }
+    Ok(Config::of(iterators))
+}
+
+/// The configuration of iterators as they stand in a document.
 #[tactic(auto, unfolding(crate::specs::Document::accepted))]
-fn accepted(iterators: Vec<IterSpec>) -> Result<Config, ConfigError>
+fn accepted(alloc: Global, iterators: Vec<IterSpec>) -> Result<Config, ConfigError>
     requires few { length iterators.items ≤ MAX_ITERATORS }
     requires limits { All (λ s. IsLimited s.kind) iterators.items }
     ensures { Reads (λ c. c) (accepted iterators.items) result }
 {
-    if let Some(at) = first_repeated_name(&iterators) {
-        return Err(ConfigError::Refused {
-            rule: Rule::Name,
-            at,
-        });
+    if let Some(at) = first_repeat(Rule::Name, &iterators) {
+        return Err(broken(Rule::Name, at));
     }
-    if let Some(at) = first_repeated_priority(&iterators) {
-        return Err(ConfigError::Refused {
-            rule: Rule::Priority,
-            at,
-        });
+    if let Some(at) = first_repeat(Rule::Priority, &iterators) {
+        return Err(broken(Rule::Priority, at));
     }
-    Ok(Config::in_order(iterators)?)
+    let priorities = priorities_of(alloc, &iterators)?;
+    let iterators = in_priority_order(iterators)?;
+    in_order(&priorities, iterators)
 }
 
 /// The configuration of a document.
@@ -105,7 +124,7 @@ fn config_in(alloc: Global, table: &Table) -> Result<Config, ConfigError>
     ensures { Reads (λ c. c) (config_from (iterators_of (table_view table.now))) result }
 {
     let iterators = iterators_of(alloc, table)?;
-    accepted(iterators)
+    accepted(alloc, iterators)
 }
 
 /// Reads a configuration. An empty text is one without iterators.

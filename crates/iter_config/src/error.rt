@@ -13,6 +13,17 @@ pub enum Rule {
     Name,
     /// No two iterators share a priority.
     Priority,
+    /// Each iterator runs in scans.
+    NoScan,
+    /// An iterator runs in a kind of compaction only if the one before it in priority order does.
+    NotPrefix,
+    /// In compactions only filters of columns follow `versions`, and no filter of whole entries stands beside a
+    /// combiner.
+    Order,
+    /// No two combiners list one column.
+    Overlap,
+    /// No `versions` follows a combiner of deletes `full` in major compactions.
+    FullUnderVersions,
 }
 
 /// Why there is no configuration.

@@ -7,7 +7,7 @@ ghost use Rattle.std.specs.String.{string_bytes};
 ghost use Rattle.toml.specs.Data.{as_array, as_str, as_table, get_member};
 ghost use Rattle.toml.specs.View.{array_view, table_view, view};
 ghost use Rattle.iter_config.specs.Faults.{Gives};
-ghost use Rattle.iter_config.specs.Fields.{is_name, is_name_byte, keys_within, name_in, number_in, only_item, scopes_in};
+ghost use Rattle.iter_config.specs.Fields.{flag_in, integer_or, is_name, is_name_byte, keys_within, name_in, no_scopes, number_in, scopes_from, scopes_in, with_scope};
 
 use crate::error::FieldError;
 use crate::iter_spec::Scopes;
@@ -61,7 +61,7 @@ pub fn table_in(value: &Value) -> Result<&Table, FieldError>
     }
 }
 
-fn array_in(value: &Value) -> Result<&Array, FieldError>
+pub fn array_in(value: &Value) -> Result<&Array, FieldError>
     ensures { Gives (λ a. array_view a.now) (as_array (view value.now)) result }
 {
     match value.as_array() {
@@ -120,30 +120,91 @@ pub fn name_in(alloc: Global, value: &Value) -> Result<ByteText, FieldError>
     Ok(ByteText::of(alloc, text)?)
 }
 
-/// The item of an array of one.
-fn only_item(items: &Array) -> Result<&Value, FieldError>
-    ensures { Gives (λ v. view v.now) (only_item (array_view items.now)) result }
+/// A flag, which is false where nothing stands under the key.
+pub fn flag_in(table: &Table, key: &str) -> Result<bool, FieldError>
+    ensures { Gives (λ b. b) (flag_in (get_member key.now (table_view table.now))) result }
 {
-    if items.len() != 1 {
-        return Err(FieldError::Field);
+    let Some(value) = find(table, key) else {
+        return Ok(false);
+    };
+    match value.as_bool() {
+        Some(flag) => Ok(flag),
+        None => Err(FieldError::Field),
     }
-    Ok(&items[0])
 }
 
-/// Where an iterator runs.
+/// An integer, which is `default` where nothing stands under the key.
+pub fn integer_or(table: &Table, key: &str, default: i64) -> Result<i64, FieldError>
+    ensures { Gives (λ z. z) (integer_or default (get_member key.now (table_view table.now))) result }
+{
+    let Some(value) = find(table, key) else {
+        return Ok(default);
+    };
+    match value.as_integer() {
+        Some(integer) => Ok(integer),
+        None => Err(FieldError::Field),
+    }
+}
+
+/// One scope more.
+#[tactic(auto, unfolding(crate::specs::Fields::with_scope))]
+fn with_scope(scopes: Scopes, word: &[u8]) -> Result<Scopes, FieldError>
+    ensures { Gives (λ s. s) (with_scope scopes word.now) result }
+{
+    if word == b"scan".as_slice() {
+        if scopes.scan {
+            return Err(FieldError::Field);
+        }
+        return Ok(Scopes {
+            scan: true,
+            ..scopes
+        });
+    }
+    if word == b"minc".as_slice() {
+        if scopes.minc {
+            return Err(FieldError::Field);
+        }
+        return Ok(Scopes {
+            minc: true,
+            ..scopes
+        });
+    }
+    if word == b"majc".as_slice() {
+        if scopes.majc {
+            return Err(FieldError::Field);
+        }
+        return Ok(Scopes {
+            majc: true,
+            ..scopes
+        });
+    }
+    Err(FieldError::Field)
+}
+
+fn scopes_of(items: &Array) -> Result<Scopes, FieldError>
+    ensures { Gives (λ s. s) (scopes_from no_scopes (array_view items.now)) result }
+{
+    let mut scopes = Scopes {
+        scan: false,
+        minc: false,
+        majc: false,
+    };
+    for i in 0..items.len() {
+        let word = text_in(&items[i])?;
+        scopes = with_scope(scopes, word)?;
+    }
+    Ok(scopes)
+}
+
+/// Where an iterator runs: 1 to 3 different scopes.
 #[tactic(auto, unfolding(crate::specs::Fields::scopes_in))]
 pub fn scopes_in(value: &Value) -> Result<Scopes, FieldError>
     ensures { Gives (λ s. s) (scopes_in (view value.now)) result }
 {
     let items = array_in(value)?;
-    let only = only_item(items)?;
-    let word = text_in(only)?;
-    if word == b"scan".as_slice() {
-        Ok(Scopes {
-            scan: true,
-            minc: false,
-            majc: false,
-        })
+    let scopes = scopes_of(items)?;
+    if scopes.scan || scopes.minc || scopes.majc {
+        Ok(scopes)
     } else {
         Err(FieldError::Field)
     }

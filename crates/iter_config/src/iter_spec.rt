@@ -1,4 +1,6 @@
-use cell_key::ByteText;
+use crate::predicate::Predicate;
+use cell_key::{ByteText, Columns};
+use number_values::{Encoding, Op};
 
 /// Where an iterator runs (Accumulo's iterator scopes).
 #[derive(Clone, Copy, Debug, PartialEq, Eq)]
@@ -11,11 +13,34 @@ pub struct Scopes {
     pub majc: bool,
 }
 
+/// Which deletes the columns of a combiner may have (this project's own option).
+#[derive(Clone, Copy, Debug, PartialEq, Eq)]
+pub enum Deletes {
+    /// None: the tablet refuses them.
+    None,
+    /// Any. Of the major compactions only full ones combine these columns.
+    Full,
+}
+
 /// What an iterator does.
 #[derive(Drop)]
 pub enum Kind {
+    /// It keeps markers, and the entries that pass a test, or with `negate` those that don't.
+    Filter {
+        predicate: Predicate,
+        negate: bool,
+    },
     /// It keeps the newest `max` versions of each column (Accumulo's VersioningIterator).
-    Versions { max: u32 },
+    Versions {
+        max: u32,
+    },
+    /// In each listed column it makes one entry of all that are no markers (Accumulo's Combiner).
+    Combine {
+        op: Op,
+        columns: Columns,
+        encoding: Encoding,
+        deletes: Deletes,
+    },
 }
 
 /// An iterator of a configuration.

@@ -2,10 +2,13 @@
 ghost use Rattle.std.specs.Prelude.{◌≡◌, ◌≤◌, IfOk, All, length, map, codes};
 ghost use Rattle.toml.specs.View.{array_view, table_view, view};
 ghost use Rattle.iter_config.specs.Faults.{Gives, Reads};
-ghost use Rattle.iter_config.specs.Iterators.{IsLimited, iterator_of, iterators_from, kind_of, versions_of};
+ghost use Rattle.iter_config.specs.Iterators.{iterator_of, iterators_from, kind_of, versions_of};
+ghost use Rattle.iter_config.specs.Limits.{IsLimited};
 
+use crate::combiners::{combiner_of, op_of};
 use crate::error::{ConfigError, FieldError, Rule};
 use crate::fields::{has_only, member, name_in, number_in, scopes_in, table_in, text_in};
+use crate::filters::filter_of;
 use crate::iter_spec::{IterSpec, Kind};
 use std::alloc::Global;
 use toml::value::{Array, Table, Value};
@@ -34,14 +37,17 @@ fn versions_of(table: &Table) -> Result<Kind, FieldError>
 
 /// What the iterator of a table does, by the word of its kind.
 #[tactic(auto, unfolding(crate::specs::Iterators::kind_of))]
-fn kind_of(word: &[u8], table: &Table) -> Result<Kind, FieldError>
+fn kind_of(alloc: Global, word: &[u8], table: &Table) -> Result<Kind, FieldError>
     ensures kind { Gives (λ k. k) (kind_of word.now (table_view table.now)) result }
     ensures limits { IfOk result IsLimited }
 {
     if word == b"versions".as_slice() {
         return versions_of(table);
     }
-    Err(FieldError::Field)
+    match op_of(word) {
+        Some(op) => combiner_of(alloc, op, table),
+        None => filter_of(alloc, word, table),
+    }
 }
 
 /// The iterator that a table describes.
@@ -55,7 +61,7 @@ fn iterator_of(alloc: Global, value: &Value) -> Result<IterSpec, FieldError>
     let priority = number_in(member(table, "priority")?, 1, MAX_PRIORITY)?;
     let scopes = scopes_in(member(table, "scopes")?)?;
     let word = text_in(member(table, "kind")?)?;
-    let kind = kind_of(word, table)?;
+    let kind = kind_of(alloc, word, table)?;
     Ok(IterSpec {
         name,
         priority,

@@ -1,7 +1,8 @@
 use Rattle.std.proofs.Common.{◌≡◌, ◌+◌, length, drop}
 use Rattle.std.specs.List.{All}
 use Rattle.toml.specs.View.{items_view}
-use Rattle.iter_config.specs.Iterators.{IsLimited, iterators_from}
+use Rattle.iter_config.specs.Iterators.{iterators_from}
+use Rattle.iter_config.specs.Limits.{IsLimited}
 use Rattle.iter_config.proofs.Views.{with_iterators}
 use Rattle.iter_config.proofs.iterators.iterators_in.Given as goal
 

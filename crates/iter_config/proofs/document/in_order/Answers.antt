@@ -1,0 +1,24 @@
+use Rattle.std.proofs.Common.{ℕ, List, sym, ◌∙◌}
+use Rattle.iter_config.specs.Rules.{is_full_under_versions, leaves_gap, number_by, out_of_order, shares_column}
+use Rattle.iter_config.specs.declared.iter_spec.IterSpec.{IterSpec}
+use Rattle.iter_config.proofs.Repeats.{IsDistinct-from_first_clash, scans-from_first_unscanned}
+use Rattle.iter_config.proofs.document.in_order.Goals as goal
+
+pub of-requires : goal.of-requires
+of-requires c =
+    let number : List IterSpec → IterSpec → ℕ = λ before s. number_by c.args.priorities.now s in
+    record {
+      limits = c.requires.limits;
+      names = c.requires.names;
+      priorities = c.requires.priorities;
+      order = c.requires.order;
+      scans = scans-from_first_unscanned c.args.priorities.now _ (rw c.deref.ensures.value at (sym c.first_unscanned.ensures ∙ c.in_default.is));
+      prefixes = IsDistinct-from_first_clash number leaves_gap _ (rw c.deref-2.ensures.value at (sym c.first_breaking.ensures ∙ c.in_default-first_breaking.is));
+      base_order =
+          IsDistinct-from_first_clash number out_of_order _ (rw c.deref-3.ensures.value at (sym c.first_breaking-2.ensures ∙ c.in_default-first_breaking-2.is));
+      apart =
+          IsDistinct-from_first_clash number shares_column _ (rw c.deref-4.ensures.value at (sym c.first_breaking-3.ensures ∙ c.in_default-first_breaking-3.is));
+      not_newest =
+          IsDistinct-from_first_clash number is_full_under_versions _
+          (rw c.deref-5.ensures.value at (sym c.first_breaking-4.ensures ∙ c.in_default-first_breaking-4.is));
+    }

@@ -1,0 +1,17 @@
+use Rattle.std.proofs.Common.{Some, sym, ap, ◌∙◌, arith}
+use Rattle.iter_config.specs.Rules.{clashes, number_by}
+use Rattle.iter_config.proofs.Repeats.{clash_here, clash_later}
+use Rattle.iter_config.proofs.rules.first_breaking.Goals as goal
+
+pub returns-then-clashes_with_one : goal.returns-then-clashes_with_one
+returns-then-clashes_with_one c =
+    ap Some c.number_by.ensures
+    ∙ clash_here (λ before s. number_by c.args.priorities.now s) (clashes c.args.rule) c.args.iterators.now c.loop-i.i c.index-iterators-i.result (omega arith) c.index-iterators-i.is
+    (sym c.clashes_with_one.ensures ∙ c.if-clashes_with_one.true)
+    ∙ c.loop-i.invariant
+
+pub loop-i-preserved : goal.loop-i-preserved
+loop-i-preserved c =
+    clash_later (λ before s. number_by c.args.priorities.now s) (clashes c.args.rule) c.args.iterators.now c.loop-i.i c.index-iterators-i.result (omega arith) c.index-iterators-i.is
+    (sym c.clashes_with_one.ensures ∙ c.if-clashes_with_one.false)
+    ∙ c.loop-i.invariant

@@ -1,0 +1,29 @@
+-- What the combiners of a configuration ask of what comes into their columns. All of this is this project's own.
+use Rattle.std.specs.Prelude.{ℕ, Bool, true, false, not, ◌&&◌, ◌||◌, List}
+use Rattle.std.specs.List.{list_all, list_any}
+use Rattle.cell_key.specs.Listed.{is_listed}
+use Rattle.number_values.specs.Values.{reduction_of}
+use Rattle.iter_config.specs.Rules.{is_of_deletes}
+use Rattle.iter_config.specs.declared.iter_spec.Kind.{Kind}
+use Rattle.iter_config.specs.declared.iter_spec.Kind.TheVariants.{Filter, Versions, Combine}
+use Rattle.iter_config.specs.declared.iter_spec.IterSpec.{IterSpec}
+
+-- a combiner without deletes combines the columns of this family and qualifier
+abbrev pub kind_refuses : List ℕ → List ℕ → Kind → Bool
+kind_refuses family qualifier (Filter predicate negate) = false
+kind_refuses family qualifier (Versions max) = false
+kind_refuses family qualifier (Combine op columns encoding deletes) = not (is_of_deletes deletes) && is_listed columns family qualifier
+
+-- whether a configuration takes no delete of these columns: one of its combiners refuses it
+unfoldable pub refuses_delete : List IterSpec → List ℕ → List ℕ → Bool
+refuses_delete specs family qualifier = list_any (λ s. kind_refuses family qualifier s.kind) specs
+
+-- a value that a combiner of these columns reads, or any value
+abbrev pub kind_reads : List ℕ → List ℕ → List ℕ → Kind → Bool
+kind_reads family qualifier value (Filter predicate negate) = true
+kind_reads family qualifier value (Versions max) = true
+kind_reads family qualifier value (Combine op columns encoding deletes) = not (is_listed columns family qualifier) || (reduction_of op encoding).reads value
+
+-- whether a configuration takes a value in these columns: each of their combiners reads it
+unfoldable pub reads_value : List IterSpec → List ℕ → List ℕ → List ℕ → Bool
+reads_value specs family qualifier value = list_all (λ s. kind_reads family qualifier value s.kind) specs

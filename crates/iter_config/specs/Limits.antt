@@ -1,0 +1,37 @@
+-- The limits of an iterator's fields. All of this is this project's own.
+use Rattle.std.specs.Prelude.{ℕ, ◌≤◌, List, length, All, IfSome, ⊤}
+use Rattle.cell_key.specs.declared.column_name.ColumnName.{ColumnName}
+use Rattle.iter_config.specs.declared.iter_spec.Kind.{Kind}
+use Rattle.iter_config.specs.declared.iter_spec.Kind.TheVariants.{Filter, Versions, Combine}
+use Rattle.iter_config.specs.declared.predicate.Predicate.{Predicate}
+use Rattle.iter_config.specs.declared.predicate.Predicate.TheVariants.{Family, QualifierSlice, VisibilitySet, Grep, Times}
+
+-- a name has at most 1,024 bytes
+abbrev pub IsShortName : List ℕ → Type 0
+IsShortName name = length name ≤ 1024
+
+-- 1 to 64 names
+abbrev pub AreNames : List (List ℕ) → Type 0
+AreNames names = (1 ≤ length names) × (length names ≤ 64) × All IsShortName names
+
+-- the parts of a name of columns are names
+abbrev pub IsShortColumn : ColumnName → Type 0
+IsShortColumn column = IsShortName column.family × IfSome column.qualifier IsShortName
+
+-- 1 to 64 names of columns
+abbrev pub AreColumns : List ColumnName → Type 0
+AreColumns columns = (1 ≤ length columns) × (length columns ≤ 64) × All IsShortColumn columns
+
+-- what a filter tests is within its fields' limits
+abbrev pub IsLimitedTest : Predicate → Type 0
+IsLimitedTest (Family families) = AreNames families
+IsLimitedTest (QualifierSlice from to) = IfSome from IsShortName × IfSome to IsShortName
+IsLimitedTest (VisibilitySet visibilities) = AreNames visibilities
+IsLimitedTest (Grep needle) = (1 ≤ length needle) × (length needle ≤ 1024)
+IsLimitedTest (Times from to) = ⊤
+
+-- what an iterator does is within its fields' limits
+abbrev pub IsLimited : Kind → Type 0
+IsLimited (Filter predicate negate) = IsLimitedTest predicate
+IsLimited (Versions max) = (1 ≤ max) × (max ≤ 1000)
+IsLimited (Combine op columns encoding deletes) = AreColumns columns
