@@ -1,5 +1,5 @@
 -- The combiners that tables describe. The fields are this project's own; the operations are those of Accumulo's combiners.
-use Rattle.std.specs.Prelude.{ℕ, if◌then◌else◌, List, [], ◌∷◌, Option, Some, None, codes}
+use Rattle.std.specs.Prelude.{ℕ, if◌then◌else◌, List, ◌∷◌, Option, Some, None, codes}
 use Rattle.std.specs.Str.{bytes_eq}
 use Rattle.number_values.specs.declared.op.Encoding.{Encoding}
 use Rattle.number_values.specs.declared.op.Encoding.TheVariants as encoding

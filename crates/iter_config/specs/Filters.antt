@@ -1,5 +1,5 @@
 -- The filters that tables describe. The fields are this project's own.
-use Rattle.std.specs.Prelude.{ℕ, pos, negsuc, nat_le, if◌then◌else◌, List, [], ◌∷◌, length, Option, Some, None, codes}
+use Rattle.std.specs.Prelude.{ℕ, pos, negsuc, nat_le, if◌then◌else◌, List, ◌∷◌, length, Option, Some, None, codes}
 use Rattle.std.specs.Str.{bytes_eq}
 use Rattle.toml.specs.Data.{Members, get_member}
 use Rattle.iter_config.specs.Faults.{◌>>=◌}

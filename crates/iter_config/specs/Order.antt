@@ -1,5 +1,5 @@
 -- The order of priorities, and what configurations keep.
-use Rattle.std.specs.Prelude.{◌≡◌, ℕ, Bool, true, nat_lt, List, All}
+use Rattle.std.specs.Prelude.{◌≡◌, Bool, true, nat_lt, List, All}
 use Rattle.std.specs.List.{IsDistinct}
 use Rattle.std.specs.List.Sorted.{IsNonDecreasingBy}
 use Rattle.tablet_model.specs.Sorted.{sorted}

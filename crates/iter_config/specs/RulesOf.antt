@@ -1,6 +1,5 @@
 -- What a configuration asks of a store. All of this is this project's own.
-use Rattle.std.specs.Prelude.{Bool, true, not, ◌&&◌, List, filter}
-use Rattle.tablet_model.specs.Cell.{Cell}
+use Rattle.std.specs.Prelude.{true, not, List, filter}
 use Rattle.tablet_model.specs.Rules.{Rules}
 use Rattle.tablet_model.specs.Stages.{stages}
 use Rattle.iter_config.specs.Columns.{refuses_delete}

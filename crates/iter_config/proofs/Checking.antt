@@ -1,0 +1,85 @@
+-- The checks of mutations under the rules of a configuration.
+use Rattle.std.proofs.Common.{◌≡◌, ℕ, ℤ, Bool, true, false, not, ◌&&◌, ◌||◌, cond, List, [], ◌∷◌, Option, Some, None, is_some, unwrap_or, refl, sym, ap, ◌∙◌}
+use Rattle.std.specs.Prelude.{pos, filter}
+use Rattle.tablet_model.specs.Cell.{Cell}
+use Rattle.tablet_model.specs.History.{Change, RowChange, entry_of, is_delete}
+use Rattle.tablet_model.specs.Ingest.{is_mistimed, is_read, is_refused_delete, is_unread}
+use Rattle.tablet_model.specs.Stages.{Stage, by_cell, by_column}
+use Rattle.cell_key.specs.Listed.{column_listed}
+use Rattle.iter_config.specs.Columns.{kind_reads, reads_value, refuses_delete}
+use Rattle.iter_config.specs.Predicates.{filter_stage, is_of_column, keeps}
+use Rattle.iter_config.specs.Rules.{in_base, is_combiner}
+use Rattle.iter_config.specs.RulesOf.{rules_of, scans_alone}
+use Rattle.iter_config.specs.Stages.{stage_of, stages_of}
+use Rattle.iter_config.specs.declared.iter_spec.IterSpec.{IterSpec}
+use Rattle.iter_config.specs.declared.iter_spec.Kind.{Kind}
+use Rattle.iter_config.specs.declared.iter_spec.Kind.TheVariants.{Filter, Versions, Combine}
+
+not_not : (b : Bool) → not (not b) ≡ b
+not_not true = refl
+not_not false = refl
+
+pub refused_delete : (specs : List IterSpec) (k : ℕ) (m : RowChange) (u : Change)
+    → is_refused_delete (rules_of specs) k m u ≡ (is_delete u.value && refuses_delete specs u.family u.qualifier)
+unfolding is_refused_delete rules_of
+refused_delete specs k m u = ap (λ b. is_delete u.value && b) (not_not (refuses_delete specs u.family u.qualifier))
+
+untimed : (time : Option ℤ) (value : Option (List ℕ)) → time ≡ None → (is_some time && (is_delete value || true) || not (is_some time) && (is_some value && false)) ≡ false
+untimed None None h = refl
+untimed None (Some value) h = refl
+untimed (Some time) value h = absurd (let k : Some time ≡ None = h in cc)
+
+pub mistimed : (specs : List IterSpec) (k : ℕ) (m : RowChange) (u : Change) → u.time ≡ None → is_mistimed (rules_of specs) k m u ≡ false
+unfolding is_mistimed rules_of
+mistimed specs k m u none = untimed u.time u.value none
+
+-- a stage in front reads what its iterator reads: a combiner the values of its columns, any other one all
+front_reads : (e : Cell) (kind : Kind) (ss : List Stage) → is_read (stage_of kind ∷ ss) e ≡ (kind_reads e.key.family e.key.qualifier e.value kind && is_read ss e)
+unfolding is_read filter_stage column_listed
+front_reads e (Filter predicate negate) ss = go (is_of_column predicate)
+  where
+    go : (b : Bool) → is_read (cond b (by_column (keeps predicate negate)) (by_cell (keeps predicate negate)) ∷ ss) e ≡ is_read ss e
+    go true = refl
+    go false = refl
+front_reads e (Versions max) ss = refl
+front_reads e (Combine op columns encoding deletes) ss = refl
+
+others_read : (family qualifier value : List ℕ) (kind : Kind) → is_combiner kind ≡ false → kind_reads family qualifier value kind ≡ true
+others_read family qualifier value (Filter predicate negate) h = refl
+others_read family qualifier value (Versions max) h = refl
+others_read family qualifier value (Combine op columns encoding deletes) h = absurd (let k : true ≡ false = h in cc)
+
+and_assoc : (a b c : Bool) → ((a && b) && c) ≡ (a && (b && c))
+and_assoc true b c = refl
+and_assoc false b c = refl
+
+and_swap : (a b c : Bool) → (a && (b && c)) ≡ (b && (a && c))
+and_swap true true c = refl
+and_swap true false c = refl
+and_swap false true c = refl
+and_swap false false c = refl
+
+-- the stages of compactions and the other combiners read what the configuration reads
+pub all_read : (e : Cell) (specs : List IterSpec)
+    → (is_read (stages_of (filter in_base specs)) e && is_read (stages_of (filter (λ s. is_combiner s.kind) (scans_alone specs))) e) ≡ reads_value specs e.key.family e.key.qualifier e.value
+unfolding is_read reads_value
+all_read e [] = refl
+all_read e (s ∷ ss) =
+    let reads : Bool = kind_reads e.key.family e.key.qualifier e.value s.kind in
+    let base : List IterSpec = filter in_base ss in
+    let alone : List IterSpec = scans_alone ss in
+    let later : List IterSpec = filter (λ t. is_combiner t.kind) alone in
+    let combiner : (c : Bool) → is_combiner s.kind ≡ c → is_read (stages_of (cond c (s ∷ later) later)) e ≡ (reads && is_read (stages_of later) e) = λ c. elim c as (λ c. is_combiner s.kind ≡ c → is_read (stages_of (cond c (s ∷ later) later)) e ≡ (reads && is_read (stages_of later) e)) [
+      | true ↦ λ h. front_reads e s.kind (stages_of later)
+      | false ↦ λ h. sym (ap (λ b. b && is_read (stages_of later) e) (others_read e.key.family e.key.qualifier e.value s.kind h))
+    ] in
+    let go : (b : Bool) → (is_read (stages_of (cond b (s ∷ base) base)) e && is_read (stages_of (filter (λ t. is_combiner t.kind) (cond (not b) (s ∷ alone) alone))) e) ≡ (reads && (is_read (stages_of base) e && is_read (stages_of later) e)) = λ b. elim b as (λ b. (is_read (stages_of (cond b (s ∷ base) base)) e && is_read (stages_of (filter (λ t. is_combiner t.kind) (cond (not b) (s ∷ alone) alone))) e) ≡ (reads && (is_read (stages_of base) e && is_read (stages_of later) e))) [
+      | true ↦ ap (λ b. b && is_read (stages_of later) e) (front_reads e s.kind (stages_of base)) ∙ and_assoc reads (is_read (stages_of base) e) (is_read (stages_of later) e)
+      | false ↦ ap (λ b. is_read (stages_of base) e && b) (combiner (is_combiner s.kind) refl) ∙ and_swap (is_read (stages_of base) e) reads (is_read (stages_of later) e)
+    ] in
+    go (in_base s) ∙ ap (λ b. reads && b) (all_read e ss)
+
+pub unread : (specs : List IterSpec) (k : ℕ) (m : RowChange) (u : Change)
+    → is_unread (rules_of specs) k m u ≡ (is_some u.value && not (reads_value specs u.family u.qualifier (unwrap_or u.value [])))
+unfolding is_unread rules_of
+unread specs k m u = ap (λ b. is_some u.value && not b) (all_read (entry_of m.row (pos k) u) specs)
