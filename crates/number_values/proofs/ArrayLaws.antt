@@ -29,6 +29,7 @@ above_zero n h = grind arith
 at_most : (n : ℕ) → nat_lt n 257 ≡ true → n ≤ 256
 at_most n h = grind arith
 
+-- what a test of an array says
 array_is : (v : List ℤ) → is_array v ≡ true → IsArray v
 unfolding is_array
 array_is v h =
@@ -48,6 +49,7 @@ is_above_zero n h = grind arith
 is_at_most : (n : ℕ) → n ≤ 256 → nat_lt n 257 ≡ true
 is_at_most n h = grind arith
 
+-- what a test of an array asks for
 array_from : (v : List ℤ) → IsArray v → is_array v ≡ true
 unfolding is_array
 array_from v h = both_true (nat_lt 0 (length v)) (nat_lt (length v) 257) (are_elements v) (is_above_zero (length v) h.some) (is_at_most (length v) h.few) h.elements
@@ -68,6 +70,7 @@ read_elements e (part ∷ parts) h =
     ap (λ b. b && are_elements (map (element_of e) parts)) (read_number (number_in e part) (head_true (is_element e part) (list_all (is_element e) parts) h))
     ∙ read_elements e parts (tail_true (is_element e part) (list_all (is_element e) parts) h)
 
+-- what is read is an array
 read_array : (e : Encoding) (bytes : List ℕ) → spells_array e bytes ≡ true → is_array (array_in e bytes) ≡ true
 unfolding spells_array array_in
 read_array e bytes h =
@@ -104,6 +107,7 @@ joined_few (a ∷ v) [] n l m = l
 joined_few (a ∷ v) (b ∷ w) zero l m = absurd (omega arith)
 joined_few (a ∷ v) (b ∷ w) (suc n) l m = omega (arith, joined_few v w n (omega arith) (omega arith))
 
+-- sums of arrays are an array
 joined_array : (v w : List ℤ) → is_array v ≡ true → is_array w ≡ true → is_array (array_sum v w) ≡ true
 joined_array v w h k =
     let a = array_is v h in
@@ -114,6 +118,7 @@ joined_array v w h k =
       elements = joined_elements v w a.elements b.elements;
     })
 
+-- arrays are joined in any order
 joined_comm : (v w : List ℤ) → array_sum v w ≡ array_sum w v
 unfolding array_sum
 joined_comm [] [] = refl
@@ -132,6 +137,7 @@ joined_assoc (a ∷ u) (b ∷ v) (c ∷ w) h k l =
 
 -- ---- texts
 
+-- an array is read as it was written
 text_read : (e : Encoding) (v : List ℤ) → IsArray v → spells_array e (array_text e v) ≡ true
 unfolding spells_array
 text_read e [] h = absurd (omega (arith, h.some))
@@ -168,6 +174,7 @@ values_lawful op.Min e = number_lawful op.Min e
 values_lawful op.Max e = number_lawful op.Max e
 values_lawful op.ArraySum e = array_lawful e
 
+-- the text of a value of one number is short
 one_short : (o : Op) (e : Encoding) (v : List ℤ) → is_one_number o v ≡ true → length (one_text e v) ≤ 65536
 one_short o e [] h = omega arith
 one_short o e (z ∷ []) h = omega (arith, number_text_short e z (number_long o z h))

@@ -24,20 +24,24 @@ length_left (Some bytes) = length bytes + 1
 pub still_array : Encoding → ℕ → List (List ℕ) → Bool
 still_array e count parts = nat_lt (count + length parts) 257 && list_all (is_element e) parts
 
+-- before the first part
 pub still_first : (e : Encoding) (bytes : List ℕ) → still_array e 0 (parts_of e bytes) ≡ spells_array e bytes
 unfolding still_array spells_array
 still_first e bytes = ap (λ n. nat_lt n 257 && list_all (is_element e) (parts_of e bytes)) (omega arith)
 
+-- behind the last part
 pub still_last : (e : Encoding) (count : ℕ) → count ≤ 256 → still_array e count [] ≡ true
 unfolding still_array
 still_last e count l = let below : nat_lt (count + 0) 257 ≡ true = grind arith in ap (λ b. b && true) below
 
+-- no number may follow 256
 pub still_full : (e : Encoding) (count : ℕ) (part : List ℕ) (parts : List (List ℕ)) → count ≡ 256 → still_array e count (part ∷ parts) ≡ false
 unfolding still_array
 still_full e count part parts l =
     let above : nat_lt (count + length (part ∷ parts)) 257 ≡ false = grind arith in
     ap (λ b. b && list_all (is_element e) (part ∷ parts)) above
 
+-- a part that spells no number from 0 up
 pub still_not : (e : Encoding) (count : ℕ) (part : List ℕ) (parts : List (List ℕ)) → is_element e part ≡ false → still_array e count (part ∷ parts) ≡ false
 unfolding still_array
 still_not e count part parts h = ap (λ b. nat_lt (count + length (part ∷ parts)) 257 && (b && list_all (is_element e) parts)) h ∙ no (nat_lt (count + length (part ∷ parts)) 257)
@@ -46,6 +50,7 @@ still_not e count part parts h = ap (λ b. nat_lt (count + length (part ∷ part
     no true = refl
     no false = refl
 
+-- one part after the other
 pub still_more : (e : Encoding) (count : ℕ) (part : List ℕ) (parts : List (List ℕ)) → is_element e part ≡ true → still_array e count (part ∷ parts) ≡ still_array e (count + 1) parts
 unfolding still_array
 still_more e count part parts h =
@@ -58,14 +63,17 @@ still_more e count part parts h =
 pub elements_of : Encoding → List (List ℕ) → List ℤ
 elements_of e parts = map (element_of e) parts
 
+-- before the first part
 pub elements_first : (e : Encoding) (bytes : List ℕ) → elements_of e (parts_of e bytes) ≡ array_in e bytes
 unfolding elements_of array_in
 elements_first e bytes = refl
 
+-- behind the last part
 pub elements_last : (e : Encoding) → elements_of e [] ≡ []
 unfolding elements_of
 elements_last e = refl
 
+-- one part after the other
 pub elements_more : (e : Encoding) (part : List ℕ) (parts : List (List ℕ)) → elements_of e (part ∷ parts) ≡ element_of e part ∷ elements_of e parts
 unfolding elements_of
 elements_more e part parts = refl
@@ -74,10 +82,12 @@ elements_more e part parts = refl
 pub summed_from : ℕ → List ℤ → List ℤ → List ℤ
 summed_from at v w = take at v ++ array_sum (drop at v) w
 
+-- from the first place on the sums are those of the arrays
 pub summed_first : (v w : List ℤ) → summed_from 0 v w ≡ array_sum v w
 unfolding summed_from
 summed_first v w = refl
 
+-- an empty array adds nothing
 sum_none : (v : List ℤ) → array_sum v [] ≡ v
 unfolding array_sum
 sum_none [] = refl
@@ -87,6 +97,7 @@ none_sum : (v : List ℤ) → array_sum [] v ≡ v
 unfolding array_sum
 none_sum v = refl
 
+-- without further numbers the sums stay
 pub summed_last : (at : ℕ) (v : List ℤ) → summed_from at v [] ≡ v
 unfolding summed_from
 summed_last at v = ap (λ w. take at v ++ w) (sum_none (drop at v)) ∙ take-append-drop at v
@@ -116,6 +127,7 @@ length_more at v n l = omega (arith, length_suc at v n l)
 
 -- ---- elements
 
+-- both sides of a conjunction hold
 pub head_true : (a b : Bool) → (a && b) ≡ true → a ≡ true
 head_true true b h = refl
 head_true false b h = h
@@ -124,16 +136,19 @@ pub tail_true : (a b : Bool) → (a && b) ≡ true → b ≡ true
 tail_true true b h = h
 tail_true false b h = let no : false ≡ true = h in cc
 
+-- what spells an array has elements as its parts
 pub all_elements : (e : Encoding) (bytes : List ℕ) → spells_array e bytes ≡ true → list_all (is_element e) (parts_of e bytes) ≡ true
 unfolding spells_array
 all_elements e bytes h = tail_true (nat_lt (length (parts_of e bytes)) 257) (list_all (is_element e) (parts_of e bytes)) h
 
+-- its first part, and the others
 pub head_element : (e : Encoding) (part : List ℕ) (parts : List (List ℕ)) → list_all (is_element e) (part ∷ parts) ≡ true → is_element e part ≡ true
 head_element e part parts h = head_true (is_element e part) (list_all (is_element e) parts) h
 
 pub tail_elements : (e : Encoding) (part : List ℕ) (parts : List (List ℕ)) → list_all (is_element e) (part ∷ parts) ≡ true → list_all (is_element e) parts ≡ true
 tail_elements e part parts h = tail_true (is_element e part) (list_all (is_element e) parts) h
 
+-- what spells an array has at most 256 parts
 pub short_parts : (e : Encoding) (bytes : List ℕ) → spells_array e bytes ≡ true → length (parts_of e bytes) ≤ 256
 unfolding spells_array
 short_parts e bytes h = within (length (parts_of e bytes)) (head_true (nat_lt (length (parts_of e bytes)) 257) (list_all (is_element e) (parts_of e bytes)) h)
@@ -151,11 +166,13 @@ element_read e part n h k = ap (λ found. unwrap_or found (pos 0)) k ∙ sym (el
 
 -- ---- one element
 
+-- each of the numbers is from 0 up
 pub elements_at : (v : List ℤ) (at : ℕ) (d : ℤ) → are_elements v ≡ true → at < length v → is_number op.ArraySum (get_or v at d) ≡ true
 elements_at [] at d h l = absurd (omega arith)
 elements_at (a ∷ v) zero d h l = head_true (is_number op.ArraySum a) (are_elements v) h
 elements_at (a ∷ v) (suc at) d h l = elements_at v at d (tail_true (is_number op.ArraySum a) (are_elements v) h) (omega arith)
 
+-- another number from 0 up may take a place
 pub elements_set : (v : List ℤ) (at : ℕ) (x : ℤ) → are_elements v ≡ true → is_number op.ArraySum x ≡ true → are_elements (set v at x) ≡ true
 elements_set [] at x h k = refl
 elements_set (a ∷ v) zero x h k = ap (λ b. b && are_elements v) k ∙ tail_true (is_number op.ArraySum a) (are_elements v) h
@@ -177,6 +194,7 @@ sum_at (suc at) (a ∷ v) n d l = ap (λ u. a ∷ u) (sum_at at v n d (omega ari
 
 -- ---- writing
 
+-- the text of no numbers, and of one
 pub text_none : (e : Encoding) → array_text e [] ≡ []
 unfolding array_text
 text_none encoding.Fixed = refl
@@ -198,6 +216,7 @@ join_push c x (y ∷ parts) part =
     ap (λ u. x ++ (c ∷ u)) (join_push c y parts part)
     ∙ sym (append_assoc (x ++ (c ∷ join_with_byte c (y ∷ parts))) (c ∷ []) part ∙ append_assoc x (c ∷ join_with_byte c (y ∷ parts)) ((c ∷ []) ++ part) ∙ ap (λ u. x ++ (c ∷ u)) (sym (append_assoc (join_with_byte c (y ∷ parts)) (c ∷ []) part)))
 
+-- the text of one number more
 text_push : (e : Encoding) (a : ℤ) (v : List ℤ) (z : ℤ) → array_text e (a ∷ v ++ z ∷ []) ≡ (array_text e (a ∷ v) ++ separator e) ++ text_of e z
 unfolding array_text
 text_push encoding.Fixed a v z =

@@ -29,6 +29,7 @@ eights_step x rest e l =
 fixed_length : (z : ℤ) → length (text_of encoding.Fixed z) ≡ 8
 fixed_length z = refl
 
+-- in 8 bytes each
 fixed_parts : (a : ℤ) (v : List ℤ) → eights (concat (map (text_of encoding.Fixed) (a ∷ v))) ≡ map (text_of encoding.Fixed) (a ∷ v)
 fixed_parts a [] = ap eights (append-nil (text_of encoding.Fixed a)) ∙ eights_last (text_of encoding.Fixed a) (omega (arith, fixed_length a))
 fixed_parts a (b ∷ v) =
@@ -39,6 +40,7 @@ fixed_parts a (b ∷ v) =
 digit_is_no_comma : (c : ℕ) → is_ascii_digit c ≡ true → (c == 44) ≡ false
 digit_is_no_comma c h = grind arith
 
+-- a decimal number has no comma
 no_comma : (ds : List ℕ) → all_ascii_digits ds ≡ true → All (λ c. (c == 44) ≡ false) ds
 no_comma [] h k d l = absurd (omega arith)
 no_comma (c ∷ ds) h zero d l = digit_is_no_comma c (head_true (is_ascii_digit c) (all_ascii_digits ds) h)
@@ -48,12 +50,14 @@ decimal_no_comma : (z : ℤ) → is_number op.ArraySum z ≡ true → All (λ c.
 decimal_no_comma (pos n) h = no_comma (decimal n) (digit_words.from (decimal n) (decimal_is_IsNumeral n (omega (arith, below n (2 ^ 63) h))).0.1)
 decimal_no_comma (negsuc n) h = let no : false ≡ true = h in cc
 
+-- between commas
 decimal_parts : (a : ℤ) (v : List ℤ) → are_elements (a ∷ v) ≡ true → slice_split (λ c. c == 44) (join_with_byte 44 (map (text_of encoding.String) (a ∷ v))) ≡ map (text_of encoding.String) (a ∷ v)
 decimal_parts a [] h = slice_split_none (λ c. c == 44) (text_of encoding.String a) (decimal_no_comma a (head_true (is_number op.ArraySum a) true h))
 decimal_parts a (b ∷ v) h =
     slice_split_at (λ c. c == 44) (text_of encoding.String a) 44 (join_with_byte 44 (map (text_of encoding.String) (b ∷ v))) (decimal_no_comma a (head_true (is_number op.ArraySum a) (are_elements (b ∷ v)) h)) refl
     ∙ ap (λ u. text_of encoding.String a ∷ u) (decimal_parts b v (tail_true (is_number op.ArraySum a) (are_elements (b ∷ v)) h))
 
+-- in both encodings
 pub text_parts : (e : Encoding) (a : ℤ) (v : List ℤ) → are_elements (a ∷ v) ≡ true → parts_of e (array_text e (a ∷ v)) ≡ map (text_of e) (a ∷ v)
 unfolding array_text
 text_parts encoding.Fixed a v h = fixed_parts a v
@@ -61,6 +65,7 @@ text_parts encoding.String a v h = decimal_parts a v h
 
 -- ---- each text is read as its number
 
+-- the texts spell numbers from 0 up
 pub texts_are_elements : (e : Encoding) (v : List ℤ) → are_elements v ≡ true → list_all (is_element e) (map (text_of e) v) ≡ true
 texts_are_elements e [] h = refl
 texts_are_elements e (a ∷ v) h =
@@ -69,6 +74,7 @@ texts_are_elements e (a ∷ v) h =
     ∙ ap (λ b. b && list_all (is_element e) (map (text_of e) v)) number
     ∙ texts_are_elements e v (tail_true (is_number op.ArraySum a) (are_elements v) h)
 
+-- and just those that were written
 pub texts_are_read : (e : Encoding) (v : List ℤ) → are_elements v ≡ true → map (element_of e) (map (text_of e) v) ≡ v
 texts_are_read e [] h = refl
 texts_are_read e (a ∷ v) h =
@@ -78,6 +84,7 @@ texts_are_read e (a ∷ v) h =
 
 -- ---- a text is short
 
+-- the text of one number
 pub number_text_short : (e : Encoding) (z : ℤ) → is_long z ≡ true → length (text_of e z) ≤ 20
 number_text_short encoding.Fixed z h = omega (arith, fixed_length z)
 number_text_short encoding.String z h = omega (arith, length_signed_le 19 z (omega (arith, (long_fits z h).sfits)) (long_fits z h).sfits)
@@ -97,6 +104,7 @@ join_short (a ∷ b ∷ v) h =
       join_short (b ∷ v) (tail_true (is_number op.ArraySum a) (are_elements (b ∷ v)) h),
     )
 
+-- the text of an array
 pub array_text_short : (e : Encoding) (v : List ℤ) → are_elements v ≡ true → length (array_text e v) ≤ 21 * length v
 unfolding array_text
 array_text_short encoding.Fixed v h = omega (arith, concat_short v)
