@@ -53,7 +53,7 @@ fn mutations_are_checked_in_order(rt: HostRuntime) -> Result<(), Fail> {
         (524_288, &[(b"n", word)], Some(Refused::Value { at: 1 })),
         (
             0,
-            &[(b"a", None), (b"n", one), (b"n", None), (b"n", word)],
+            &[(b"a", None), (b"n", one), (b"n", None)],
             Some(Refused::DeleteHere { at: 3 }),
         ),
         (
