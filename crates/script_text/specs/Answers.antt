@@ -7,7 +7,7 @@ use Rattle.cell_key.specs.declared.key.Part.{Part}
 use Rattle.cell_key.specs.declared.key.Part.TheVariants.{Row, Family, Qualifier, Visibility, Value, Updates}
 use Rattle.script_text.specs.declared.refusal.Refusal.{Refusal}
 use Rattle.script_text.specs.declared.refusal.Refusal.TheVariants as refusal
-use Rattle.script_text.specs.declared.refusal.Refusal.TheVariants.{Syntax, Bound, Duplicate, DeleteHere, Full, NothingInMemory, FrozenThere, NothingFrozen, TooManyFiles, JobExists, NoFiles, NoSuchFile, InJob, NoSuchJob, SessionOpen, NoSession, Live}
+use Rattle.script_text.specs.declared.refusal.Refusal.TheVariants.{Syntax, Bound, Duplicate, DeleteHere, Time, Full, NothingInMemory, FrozenThere, NothingFrozen, TooManyFiles, JobExists, NoFiles, NoSuchFile, InJob, NoSuchJob, SessionOpen, NoSession, Live}
 
 -- = and the value; a marker has no value, and - in its place
 abbrev pub value_text : Cell → List ℕ
@@ -59,6 +59,7 @@ refusal_code Syntax = codes "syntax"
 refusal_code (Bound part) = codes "bound " ++ part_name part
 refusal_code Duplicate = codes "duplicate"
 refusal_code DeleteHere = codes "delete"
+refusal_code Time = codes "time"
 refusal_code refusal.Value = codes "value"
 refusal_code Full = codes "full"
 refusal_code NothingInMemory = codes "empty"

@@ -11,6 +11,8 @@ pub enum Refusal {
     Duplicate,
     /// The mutation deletes in a column that takes no deletes.
     DeleteHere,
+    /// The mutation has a time where its column takes none, or has none where it wants one.
+    Time,
     /// The mutation puts a value that a combiner of its column does not read.
     Value,
     /// The log has the most mutations that it may have.

@@ -50,6 +50,7 @@ fn append_code(alloc: Global, text: &mut ByteText, refusal: &Refusal) -> Result<
         }
         Refusal::Duplicate => text.append(b"duplicate"),
         Refusal::DeleteHere => text.append(b"delete"),
+        Refusal::Time => text.append(b"time"),
         Refusal::Value => text.append(b"value"),
         Refusal::Full => text.append(b"full"),
         Refusal::NothingInMemory => text.append(b"empty"),

@@ -131,6 +131,7 @@ fn writes_answers(rt: HostRuntime) -> Result<(), Fail> {
         (Refusal::Bound(Part::Value), "no bound value\n"),
         (Refusal::Duplicate, "no duplicate\n"),
         (Refusal::DeleteHere, "no delete\n"),
+        (Refusal::Time, "no time\n"),
         (Refusal::Value, "no value\n"),
         (Refusal::Full, "no full\n"),
         (Refusal::NothingInMemory, "no empty\n"),
