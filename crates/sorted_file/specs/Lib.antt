@@ -1,0 +1,4 @@
+pub mod Image
+pub mod Lists
+pub mod Reading
+pub mod Files
