@@ -3,7 +3,7 @@
 use Rattle.std.specs.Prelude.{ℕ, zero, ◌+◌, ◌%◌, Bool, ◌==◌, if◌then◌else◌, List, [], ◌∷◌, ◌++◌, length, codes}
 use Rattle.std.specs.Int.{w16, w32, w64, to_be_bytes, cast_unsigned}
 use Rattle.std.specs.List.{flat_map}
-use Rattle.tablet_model.specs.Cell.{Cell}
+use Rattle.tablet_model.specs.Cell.{CellKey, Cell}
 
 -- what an image begins with
 abbrev pub magic : List ℕ
@@ -33,11 +33,15 @@ flag_bytes deleted = if deleted then 1 ∷ [] else 0 ∷ []
 abbrev pub value_bytes : List ℕ → List ℕ
 value_bytes value = to_be_bytes w32 (length value) ++ value
 
--- an entry: the parts of its key, its time in eight bytes, its flag and its value
+-- a key: its parts, its time in eight bytes and its flag
+unfoldable pub key_bytes : CellKey → List ℕ
+key_bytes k =
+    part_bytes k.row ++ part_bytes k.family ++ part_bytes k.qualifier ++ part_bytes k.visibility
+    ++ to_be_bytes w64 (cast_unsigned w64 k.time) ++ flag_bytes k.deleted
+
+-- an entry: its key and its value
 unfoldable pub entry_bytes : Cell → List ℕ
-entry_bytes e =
-    part_bytes e.key.row ++ part_bytes e.key.family ++ part_bytes e.key.qualifier ++ part_bytes e.key.visibility
-    ++ to_be_bytes w64 (cast_unsigned w64 e.key.time) ++ flag_bytes e.key.deleted ++ value_bytes e.value
+entry_bytes e = key_bytes e.key ++ value_bytes e.value
 
 -- some entries, one behind the other
 abbrev pub entries_bytes : List Cell → List ℕ
