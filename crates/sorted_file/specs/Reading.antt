@@ -118,13 +118,13 @@ index_at (place ∷ places) u = do
   rest ← expected_at Index (to_be_bytes w64 place) u
   index_at places rest
 
--- what stands behind the entries, and then nothing
-unfoldable pub footer_at : List Cell → Unread → Result (List Cell) Fault
-footer_at list u = do
-  index ← index_at (block_places list) u
-  count ← expected_at Tail (to_be_bytes w64 (length list)) index
-  end ← expected_at Tail end_magic count
-  if length end.rest == 0 then Ok list else fault Tail end.at
+-- what stands behind the entries, and then nothing: the index of these places, the count and the end
+unfoldable pub footer_at : List ℕ → ℕ → Unread → Result Unread Fault
+footer_at places count u = do
+  index ← index_at places u
+  number ← expected_at Tail (to_be_bytes w64 count) index
+  end ← expected_at Tail end_magic number
+  if length end.rest == 0 then Ok end else fault Tail end.at
 
 -- the list whose image the bytes are, or the first fault of bytes that are no image
 unfoldable pub image_reading : List ℕ → Result (List Cell) Fault
@@ -132,4 +132,5 @@ image_reading bytes = do
   head ← expected_at Magic magic (record { at = 0; rest = bytes })
   start ← expected_at Version version head
   entries ← entries_at (length bytes) None start
-  footer_at entries.0 entries.1
+  end ← footer_at (block_places entries.0) (length entries.0) entries.1
+  Ok entries.0
