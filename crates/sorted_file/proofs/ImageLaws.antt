@@ -6,7 +6,7 @@ use Rattle.std.proofs.lemmas.List.{append-nil, nil_from_length, get_or_past}
 use Rattle.tablet_model.specs.Cell.{Cell}
 use Rattle.sorted_file.specs.Image.{magic, version, end_mark, end_magic, entries_bytes, block_places, index_bytes, footer_bytes, image_of}
 use Rattle.sorted_file.specs.Lists.{IsFileEntry, IsFileList}
-use Rattle.sorted_file.specs.Reading.{◌>>=◌, Unread, fault, expected_at, entries_at, index_at, footer_at, image_reading}
+use Rattle.sorted_file.specs.Reading.{◌>>=◌, Unread, fault, expected_at, head_at, entries_at, index_at, footer_at, image_reading}
 use Rattle.sorted_file.specs.declared.fault.Fault.{Fault}
 use Rattle.sorted_file.specs.declared.fault.ImageCause.TheVariants.{Magic, Version, Tail}
 use Rattle.sorted_file.proofs.Fields.{bind_ok, then_ok, ok_is, IsBytes, spot, Takes, Takes-then, expected_again, expected_take}
@@ -62,6 +62,10 @@ few list =
 abbrev body_at : List ℕ → Unread → Result (List Cell) Fault
 body_at bytes u = entries_at (length bytes) None u >>= λ entries. footer_at (block_places entries.0) (length entries.0) entries.1 >>= λ end. Ok entries.0
 
+head_again : (at : ℕ) (rest : List ℕ) → head_at (spot at (magic ++ (version ++ rest))) ≡ Ok (spot (at + 4 + 1) rest)
+unfolding head_at
+head_again at rest = ap (λ (r : Result Unread Fault). r >>= expected_at Version version) (expected_again Magic magic at (version ++ rest)) ∙ expected_again Version version (at + 4) rest
+
 -- an image is read as its list
 pub image_again : (list : List Cell) → IsFileList list → image_reading (image_of list) ≡ Ok list
 unfolding image_reading
@@ -69,11 +73,17 @@ image_again list is =
     let bytes : List ℕ = image_of list in
     let all : List ℕ = entries_bytes list ++ (end_mark ++ rest_bytes list) in
     let footer = footer_again (block_places list) (length list) (5 + (length (entries_bytes list) + 2)) in
-    ap (λ (b : List ℕ). expected_at Magic magic (spot 0 b) >>= λ u. expected_at Version version u >>= body_at bytes) (image_is list)
-    ∙ ap (λ (r : Result Unread Fault). r >>= λ u. expected_at Version version u >>= body_at bytes) (expected_again Magic magic 0 (version ++ all))
-    ∙ ap (λ (r : Result Unread Fault). r >>= body_at bytes) (expected_again Version version 4 all)
+    ap (λ (b : List ℕ). head_at (spot 0 b) >>= body_at bytes) (image_is list)
+    ∙ ap (λ (r : Result Unread Fault). r >>= body_at bytes) (head_again 0 all)
     ∙ ap (λ (r : Result (List Cell × Unread) Fault). r >>= λ entries. footer_at (block_places entries.0) (length entries.0) entries.1 >>= λ end. Ok entries.0) (entries_again (length bytes) None list 5 (rest_bytes list) (few list) (ascends_follows list is.ascends) is.entries)
     ∙ ap (λ (r : Result Unread Fault). r >>= λ end. Ok list) footer.1
+
+pub head_take : (u v : Unread) → IsBytes u.rest → head_at u ≡ Ok v → Takes u (magic ++ version) v
+unfolding head_at
+head_take u v fits e =
+    let m = bind_ok (expected_at Magic magic u) (expected_at Version version) v e in
+    let m' = expected_take Magic magic u m.0 fits m.1 in
+    Takes-then u magic m.0 version v m' (expected_take Version version m.0 v m'.rest_fits m.2)
 
 -- the list is what was read
 read_list : (entries : List Cell × Unread) (list : List Cell) → IsBytes entries.1.rest → (footer_at (block_places entries.0) (length entries.0) entries.1 >>= λ end. Ok entries.0) ≡ Ok list
@@ -94,12 +104,10 @@ body_take bytes u list fits e =
 pub image_take : (bytes : List ℕ) (list : List Cell) → IsBytes bytes → image_reading bytes ≡ Ok list → (image_of list ≡ bytes) × IsFileList list
 unfolding image_reading
 image_take bytes list fits e =
-    let m = bind_ok (expected_at Magic magic (spot 0 bytes)) (λ u. expected_at Version version u >>= body_at bytes) list e in
-    let m' = expected_take Magic magic (spot 0 bytes) m.0 fits m.1 in
-    let v = bind_ok (expected_at Version version m.0) (body_at bytes) list m.2 in
-    let v' = expected_take Version version m.0 v.0 m'.rest_fits v.1 in
+    let v = bind_ok (head_at (spot 0 bytes)) (body_at bytes) list e in
+    let v' = head_take (spot 0 bytes) v.0 fits v.1 in
     let b = body_take bytes v.0 list v'.rest_fits v.2 in
-    (image_is list ∙ sym (m'.parts ∙ ap (λ (r : List ℕ). magic ++ r) (v'.parts ∙ ap (λ (r : List ℕ). version ++ r) b.0)), b.1)
+    (image_is list ∙ sym (v'.parts ∙ ap (λ (r : List ℕ). (magic ++ version) ++ r) b.0), b.1)
 
 pub bytes_of : (bytes : List ℕ) → All (λ b. b < 256) bytes → IsBytes bytes
 bytes_of bytes h i =

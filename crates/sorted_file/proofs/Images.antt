@@ -69,7 +69,7 @@ entries_again (suc most) before (e ∷ es) at rest few f is =
     ap (λ (b : List ℕ). entries_at (suc most) before (spot at b)) bytes
     ∙ rw (n.1, row_some (length e.key.row) is.0.0.0.0, next_again before e at tail is.0 f.0, others) (ap (λ (p : ℕ). Ok (e ∷ es, spot p rest)) place)
 
-next_take : (before : Option Cell) (u : Unread) (x : Cell × Unread) → IsBytes u.rest → next_entry_at before u ≡ Ok x
+pub next_take : (before : Option Cell) (u : Unread) (x : Cell × Unread) → IsBytes u.rest → next_entry_at before u ≡ Ok x
     → Takes u (entry_bytes x.0) x.1 × IsFileEntry x.0 × (is_out_of_order before x.0 ≡ false)
 unfolding next_entry_at
 next_take before u x fits e =
@@ -97,7 +97,7 @@ one_more before u a b t is ordered r = record {
 }
 
 -- what is read behind a row's length
-abbrev behind_length : ℕ → Option Cell → Unread → ℕ × Unread → Result (List Cell × Unread) Fault
+abbrev pub behind_length : ℕ → Option Cell → Unread → ℕ × Unread → Result (List Cell × Unread) Fault
 behind_length most before u n = cond (eqb n.0 0) (Ok ([], n.1)) (next_entry_at before u >>= λ entry. entries_at most (Some entry.0) entry.1 >>= λ entries. Ok (entry.0 ∷ entries.0, entries.1))
 
 by_length : (most : ℕ) (before : Option Cell) (u : Unread) (x : List Cell × Unread) (n : ℕ × Unread) → IsBytes u.rest → Takes u (to_be_bytes w16 n.0) n.1

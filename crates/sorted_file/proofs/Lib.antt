@@ -5,3 +5,6 @@ pub mod Entries
 pub mod Orders
 pub mod Images
 pub mod ImageLaws
+pub mod Building
+pub mod Loops
+pub mod Opening

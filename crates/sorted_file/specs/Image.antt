@@ -1,6 +1,6 @@
 -- The image of a sorted file, version 1: its bytes. All numbers are big-endian. The format is this project's own; that a sorted file
 -- has blocks of entries and an index of them is Accumulo's.
-use Rattle.std.specs.Prelude.{ℕ, zero, ◌+◌, ◌%◌, Bool, ◌==◌, if◌then◌else◌, List, [], ◌∷◌, ◌++◌, length, codes}
+use Rattle.std.specs.Prelude.{ℕ, zero, ◌+◌, ◌%◌, Bool, ◌==◌, if◌then◌else◌, List, [], ◌∷◌, ◌++◌, length, take, codes}
 use Rattle.std.specs.Int.{w16, w32, w64, to_be_bytes, cast_unsigned}
 use Rattle.std.specs.List.{flat_map}
 use Rattle.tablet_model.specs.Cell.{CellKey, Cell}
@@ -47,6 +47,10 @@ entry_bytes e = key_bytes e.key ++ value_bytes e.value
 abbrev pub entries_bytes : List Cell → List ℕ
 entries_bytes list = flat_map entry_bytes list
 
+-- the place of the entry behind the first i ones; they stand behind the magic and the version
+abbrev pub entry_place : List Cell → ℕ → ℕ
+entry_place list i = 5 + length (entries_bytes (take i list))
+
 -- the place of an entry, if a block begins with it: each 64th entry begins one, and n entries stand before this one
 abbrev pub block_start : ℕ → ℕ → List ℕ
 block_start n at = if n % 64 == 0 then at ∷ [] else []
@@ -56,7 +60,7 @@ unfoldable pub blocks_from : ℕ → ℕ → List Cell → List ℕ
 blocks_from n at [] = []
 blocks_from n at (e ∷ es) = block_start n at ++ blocks_from (n + 1) (at + length (entry_bytes e)) es
 
--- the places of the blocks of an image; the first entry stands behind the magic and the version
+-- the places of the blocks of an image
 abbrev pub block_places : List Cell → List ℕ
 block_places list = blocks_from 0 5 list
 

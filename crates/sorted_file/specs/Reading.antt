@@ -118,6 +118,12 @@ index_at (place ∷ places) u = do
   rest ← expected_at Index (to_be_bytes w64 place) u
   index_at places rest
 
+-- what stands before the entries
+unfoldable pub head_at : Unread → Result Unread Fault
+head_at u = do
+  behind ← expected_at Magic magic u
+  expected_at Version version behind
+
 -- what stands behind the entries, and then nothing: the index of these places, the count and the end
 unfoldable pub footer_at : List ℕ → ℕ → Unread → Result Unread Fault
 footer_at places count u = do
@@ -129,8 +135,7 @@ footer_at places count u = do
 -- the list whose image the bytes are, or the first fault of bytes that are no image
 unfoldable pub image_reading : List ℕ → Result (List Cell) Fault
 image_reading bytes = do
-  head ← expected_at Magic magic (record { at = 0; rest = bytes })
-  start ← expected_at Version version head
+  start ← head_at (record { at = 0; rest = bytes })
   entries ← entries_at (length bytes) None start
   end ← footer_at (block_places entries.0) (length entries.0) entries.1
   Ok entries.0

@@ -1,15 +1,13 @@
 // How an entry of an image is read.
 ghost use Rattle.std.specs.Prelude.{◌≤◌, length, IfOk};
 ghost use Rattle.cell_key.specs.Views.{cell_of, key_of};
-ghost use Rattle.sorted_file.specs.Files.{Gives, unread_of};
+ghost use Rattle.sorted_file.specs.Answers.{Gives, unread_of};
 ghost use Rattle.sorted_file.specs.Reading.{entry_at, flag_at, key_at, part_at, row_at, value_at};
 
 use crate::fault::{Fault, ImageCause};
+use crate::format::MAX_VALUE;
 use crate::input::Input;
 use cell_key::{EntryRef, KeyRef, MAX_KEY_PART};
-
-/// The most bytes of a value.
-const MAX_VALUE: u32 = 65536;
 
 #[tactic(auto, unfolding(crate::specs::Reading::row_at))]
 fn take_row(input: Input<'_>) -> Result<(&[u8], Input<'_>), Fault>

@@ -14,7 +14,7 @@ pub struct Input<'a> {
 impl<'a> Input<'a> {
     ghost use Rattle.std.specs.Prelude.{◌≡◌, IfOk};
     ghost use Rattle.std.specs.Int.{w16, w32, w64};
-    ghost use Rattle.sorted_file.specs.Files.{Gives, unread_of};
+    ghost use Rattle.sorted_file.specs.Answers.{Gives, unread_of};
     ghost use Rattle.sorted_file.specs.Reading.{bytes_at, expected_at, number_at};
     ghost use Rattle.sorted_file.specs.declared.fault.Fault.{Fault};
 
