@@ -8,3 +8,5 @@ pub mod ImageLaws
 pub mod Building
 pub mod Loops
 pub mod Opening
+pub mod Places
+pub mod Walks

@@ -4,4 +4,4 @@ pub mod Reading
 pub mod Answers
 pub mod FileParts
 pub mod BuilderParts
-
+pub mod CursorParts

@@ -1,6 +1,4 @@
-ghost use Rattle.std.specs.Prelude.{◌≡◌, ◌<◌, ◌≤◌, ◌+◌, ◌-◌, Some, length, slice_get, filter, take, drop};
-ghost use Rattle.tablet_model.specs.Cuts.{is_behind, is_before};
-ghost use Rattle.cell_key.specs.Ranges.{cut_of};
+ghost use Rattle.std.specs.Prelude.{◌≡◌, ◌<◌, ◌+◌, Some, length, slice_get};
 ghost use Rattle.cell_key.specs.Views.{cell_of};
 ghost use Rattle.sorted_file.specs.Answers.{Opens};
 ghost use Rattle.sorted_file.specs.Image.{entry_place, image_of};
@@ -9,9 +7,11 @@ ghost use Rattle.sorted_file.specs.Reading.{image_reading};
 
 use crate::entry_reading::take_entry;
 use crate::fault::OpenError;
+use crate::format::{MAGIC, VERSION};
 use crate::image_reading::read_image;
 use crate::input::Input;
-use cell_key::{Bound, ByteText, EntryRef, lies_before, lies_behind};
+use crate::spot::Spot;
+use cell_key::{ByteText, EntryRef};
 use std::alloc::Global;
 use std::marker::Model;
 
@@ -36,15 +36,6 @@ impl Model for SortedFile {
     ghost invariant = { IsFile };
 }
 
-/// Where an entry of a file stands.
-#[derive(Clone, Copy)]
-pub(crate) struct Spot {
-    /// How many entries stand before it.
-    pub index: usize,
-    /// The place of its first byte in the image.
-    pub place: usize,
-}
-
 impl SortedFile {
     /// The file whose image the bytes are. The bytes are gone after a refusal.
     pub fn open(alloc: Global, bytes: ByteText) -> Result<SortedFile, OpenError>
@@ -67,5 +58,49 @@ impl SortedFile {
         ensures list { IsFileList self.now }
     {
         self.bytes.bytes()
+    }
+
+    /// The number of entries.
+    pub(crate) fn len(&self) -> usize
+        ensures length { result ≡ length self.now }
+        ensures list { IsFileList self.now }
+    {
+        self.count
+    }
+
+    /// Where the first entry stands, if there is one.
+    pub(crate) fn start(&self) -> Spot
+        ensures index { result.index ≡ 0 }
+        ensures place { result.place ≡ entry_place self.now 0 }
+        ensures list { IsFileList self.now }
+    {
+        let _ = &self.bytes;
+        Spot {
+            index: 0,
+            place: MAGIC.len() + VERSION.len(),
+        }
+    }
+
+    /// The entry at a spot, and where the next one stands.
+    pub(crate) fn entry(&self, spot: Spot) -> (EntryRef<'_>, Spot)
+        requires within { spot.index < length self.now }
+        requires place { spot.place ≡ entry_place self.now spot.index }
+        ensures entry { slice_get self.now spot.index ≡ Some (cell_of result.0) }
+        ensures index { result.1.index ≡ spot.index + 1 }
+        ensures place { result.1.place ≡ entry_place self.now (spot.index + 1) }
+    {
+        let (_, rest) = self.bytes().split_at(spot.place);
+        let input = Input {
+            at: spot.place,
+            rest,
+        };
+        let Ok((entry, rest)) = take_entry(input) else {
+            unreachable!()
+        };
+        let next = Spot {
+            index: spot.index + 1,
+            place: rest.at,
+        };
+        (entry, next)
     }
 }

@@ -2,6 +2,7 @@
 #![tactic(auto)]
 
 mod builder;
+mod cursor;
 mod entry_reading;
 mod entry_writing;
 mod fault;
@@ -10,8 +11,11 @@ mod format;
 mod image_laws;
 mod image_reading;
 mod input;
+mod seeking;
+mod spot;
 
 pub use builder::FileBuilder;
+pub use cursor::FileCursor;
 pub use fault::{Fault, ImageCause, OpenError};
 pub use file::SortedFile;
 pub use image_laws::images_are_exact;
