@@ -39,13 +39,15 @@ begun_is list is =
 pub is_built : (b : builder.Inside) (list : List Cell) → b.bytes ≡ (magic ++ version) ++ entries_bytes list → IsFileList list → b.blocks.items ≡ block_places list → b.count ≡ length list
     → IsBuilt b × (built_list b ≡ list)
 is_built b list image is blocks count =
-    let e : built_list b ≡ list = ap begun_list image ∙ begun_is list is in
-    (record {
-      image = image ∙ ap (λ (l : List Cell). (magic ++ version) ++ entries_bytes l) (sym e);
-      list = subst IsFileList (sym e) is;
-      blocks = blocks ∙ ap block_places (sym e);
-      count = count ∙ ap length (sym e);
-    }, e)
+    let e : built_list b ≡ list = ap begun_list image ∙ begun_is list is in (
+      record {
+        image = image ∙ ap (λ (l : List Cell). (magic ++ version) ++ entries_bytes l) (sym e);
+        list = subst IsFileList (sym e) is;
+        blocks = blocks ∙ ap block_places (sym e);
+        count = count ∙ ap length (sym e);
+      },
+      e,
+    )
 
 pub entries_push : (list : List Cell) (e : Cell) → entries_bytes (list ++ e ∷ []) ≡ entries_bytes list ++ entry_bytes e
 entries_push list e = flat_map-append entry_bytes list (e ∷ []) ∙ ap (λ (r : List ℕ). entries_bytes list ++ r) (flat_map-cons entry_bytes e [] ∙ append-nil (entry_bytes e))
@@ -84,10 +86,10 @@ built_push b list e is same fits ordered next bytes blocks count =
     let n : b.count ≡ 0 + length list = omega (arith, is.count, ap length same) in
     let at : length b.bytes ≡ 5 + length (entries_bytes list) = ap length image ∙ length-append (magic ++ version) (entries_bytes list) in
     let image' : next.bytes ≡ (magic ++ version) ++ entries_bytes (list ++ e ∷ []) =
-        bytes ∙ ap (λ (r : List ℕ). r ++ entry_bytes e) image ∙ append_assoc (magic ++ version) (entries_bytes list) (entry_bytes e) ∙ ap (λ (r : List ℕ). (magic ++ version) ++ r) (sym (entries_push list e)) in
+    bytes ∙ ap (λ (r : List ℕ). r ++ entry_bytes e) image ∙ append_assoc (magic ++ version) (entries_bytes list) (entry_bytes e) ∙ ap (λ (r : List ℕ). (magic ++ version) ++ r) (sym (entries_push list e)) in
     let blocks' : next.blocks.items ≡ block_places (list ++ e ∷ []) =
-        blocks ∙ ap (λ (r : List ℕ). r ++ block_start b.count (length b.bytes)) (is.blocks ∙ ap block_places same)
-        ∙ ap (λ (k : ℕ). block_places list ++ block_start k (length b.bytes)) n ∙ ap (λ (k : ℕ). block_places list ++ block_start (0 + length list) k) at ∙ sym (blocks_push 0 5 list e) in
+    blocks ∙ ap (λ (r : List ℕ). r ++ block_start b.count (length b.bytes)) (is.blocks ∙ ap block_places same)
+    ∙ ap (λ (k : ℕ). block_places list ++ block_start k (length b.bytes)) n ∙ ap (λ (k : ℕ). block_places list ++ block_start (0 + length list) k) at ∙ sym (blocks_push 0 5 list e) in
     let count' : next.count ≡ length (list ++ e ∷ []) = omega (arith, count, is.count, ap length same, length-append list (e ∷ [])) in
     is_built next (list ++ e ∷ []) image' (file_list_push list e (subst IsFileList same is.list) fits ordered) blocks' count'
 
@@ -95,12 +97,14 @@ built_push b list e is same fits ordered next bytes blocks count =
 
 pub is_file : (f : file.Inside) (list : List Cell) → f.bytes ≡ image_of list → IsFileList list → f.count ≡ length list → IsFile f × (file_list f ≡ list)
 is_file f list image is count =
-    let e : file_list f ≡ list = ap list_in image ∙ ap (λ (r : Result (List Cell) Fault). result_unwrap_or r []) (image_again list is) in
-    (record {
-      image = image ∙ ap image_of (sym e);
-      list = subst IsFileList (sym e) is;
-      count = count ∙ ap length (sym e);
-    }, e)
+    let e : file_list f ≡ list = ap list_in image ∙ ap (λ (r : Result (List Cell) Fault). result_unwrap_or r []) (image_again list is) in (
+      record {
+        image = image ∙ ap image_of (sym e);
+        list = subst IsFileList (sym e) is;
+        count = count ∙ ap length (sym e);
+      },
+      e,
+    )
 
 whole : (h k i n z : List ℕ) → (((h ++ k) ++ i) ++ n) ++ z ≡ h ++ (((k ++ i) ++ n) ++ z)
 whole h k i n z = simp append_assoc

@@ -24,10 +24,12 @@ unfolding footer_at
 footer_again places count at =
     let index : ℕ = at + length (index_bytes places) in
     let number : List ℕ = to_be_bytes w64 count in
-    let end : expected_at Tail end_magic (spot (index + length number) end_magic) ≡ Ok (spot (index + length number + 4) []) = expected_again Tail end_magic (index + length number) [] in
-    (index + length number + 4, ap (λ (r : Result Unread Fault). r >>= λ u. expected_at Tail number u >>= λ v. expected_at Tail end_magic v >>= λ w. cond (eqb (length w.rest) 0) (Ok w) (fault Tail w.at)) (index_again places at (number ++ end_magic))
-    ∙ ap (λ (r : Result Unread Fault). r >>= λ v. expected_at Tail end_magic v >>= λ w. cond (eqb (length w.rest) 0) (Ok w) (fault Tail w.at)) (expected_again Tail number index end_magic)
-    ∙ ap (λ (r : Result Unread Fault). r >>= λ w. cond (eqb (length w.rest) 0) (Ok w) (fault Tail w.at)) end)
+    let end : expected_at Tail end_magic (spot (index + length number) end_magic) ≡ Ok (spot (index + length number + 4) []) = expected_again Tail end_magic (index + length number) [] in (
+      index + length number + 4,
+      ap (λ (r : Result Unread Fault). r >>= λ u. expected_at Tail number u >>= λ v. expected_at Tail end_magic v >>= λ w. cond (eqb (length w.rest) 0) (Ok w) (fault Tail w.at)) (index_again places at (number ++ end_magic))
+          ∙ ap (λ (r : Result Unread Fault). r >>= λ v. expected_at Tail end_magic v >>= λ w. cond (eqb (length w.rest) 0) (Ok w) (fault Tail w.at)) (expected_again Tail number index end_magic)
+          ∙ ap (λ (r : Result Unread Fault). r >>= λ w. cond (eqb (length w.rest) 0) (Ok w) (fault Tail w.at)) end,
+    )
 
 footer_take : (places : List ℕ) (count : ℕ) (u v : Unread) → IsBytes u.rest → footer_at places count u ≡ Ok v → u.rest ≡ index_bytes places ++ (to_be_bytes w64 count ++ end_magic)
 unfolding footer_at

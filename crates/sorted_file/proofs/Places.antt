@@ -8,9 +8,9 @@ use Rattle.tablet_model.specs.Bounds.{IsEntry, AreEntries}
 use Rattle.tablet_model.proofs.Sums.{all_weaker}
 use Rattle.sorted_file.specs.Image.{magic, version, entry_bytes, entries_bytes, entry_place, footer_bytes, image_of}
 use Rattle.sorted_file.specs.Lists.{IsFileEntry, IsFileList}
-use Rattle.sorted_file.specs.Reading.{entry_at}
+use Rattle.sorted_file.specs.Reading.{Unread, entry_at}
 use Rattle.sorted_file.specs.declared.fault.Fault.{Fault}
-use Rattle.sorted_file.proofs.Fields.{spot}
+use Rattle.sorted_file.proofs.Fields.{ok_is, spot}
 use Rattle.sorted_file.proofs.Entries.{entry_again}
 
 -- a list around its entry i
@@ -55,7 +55,7 @@ image_from list i =
     let front : List ℕ = entries_bytes (take i list) in
     let back : List ℕ = entries_bytes (drop i list) in
     let whole : (head ++ entries_bytes list) ++ footer_bytes list ≡ (head ++ front) ++ (back ++ footer_bytes list) =
-        ap (λ (r : List ℕ). (head ++ r) ++ footer_bytes list) (split list i) ∙ ap (λ (r : List ℕ). r ++ footer_bytes list) (sym (append_assoc head front back)) ∙ append_assoc (head ++ front) back (footer_bytes list) in
+    ap (λ (r : List ℕ). (head ++ r) ++ footer_bytes list) (split list i) ∙ ap (λ (r : List ℕ). r ++ footer_bytes list) (sym (append_assoc head front back)) ∙ append_assoc (head ++ front) back (footer_bytes list) in
     ap (drop (entry_place list i)) whole ∙ drop_at (head ++ front) (back ++ footer_bytes list) (entry_place list i) (length-append head front)
 
 -- a place lies within the image
@@ -72,26 +72,41 @@ entries_within list =
     omega (arith, length-append (head ++ entries_bytes list) (footer_bytes list), length-append head (entries_bytes list))
 
 -- what is read at the place of an entry
-pub entry_found : (list : List Cell) (i : ℕ) → IsFileList list → (a : Around list i) → entry_at (spot (entry_place list i) (drop (entry_place list i) (image_of list))) ≡ Ok (a.entry, spot (entry_place list (i + 1)) (entries_bytes a.behind ++ footer_bytes list))
+entry_found : (list : List Cell) (i : ℕ) → IsFileList list → (a : Around list i) → entry_at (spot (entry_place list i) (drop (entry_place list i) (image_of list))) ≡ Ok (a.entry, spot (entry_place list (i + 1)) (entries_bytes a.behind ++ footer_bytes list))
 entry_found list i is a =
     let fits = entry_is IsFileEntry list i a.entry a.behind is.entries a.from_entry in
     let bytes : drop (entry_place list i) (image_of list) ≡ entry_bytes a.entry ++ (entries_bytes a.behind ++ footer_bytes list) =
-        image_from list i ∙ ap (λ (l : List Cell). entries_bytes l ++ footer_bytes list) a.from_entry ∙ ap (λ (b : List ℕ). b ++ footer_bytes list) (flat_map-cons entry_bytes a.entry a.behind) ∙ append_assoc (entry_bytes a.entry) (entries_bytes a.behind) (footer_bytes list) in
+    image_from list i ∙ ap (λ (l : List Cell). entries_bytes l ++ footer_bytes list) a.from_entry ∙ ap (λ (b : List ℕ). b ++ footer_bytes list) (flat_map-cons entry_bytes a.entry a.behind) ∙ append_assoc (entry_bytes a.entry) (entries_bytes a.behind) (footer_bytes list) in
     let one : entries_bytes (a.entry ∷ []) ≡ entry_bytes a.entry ++ [] = flat_map-cons entry_bytes a.entry [] in
     let place : entry_place list i + length (entry_bytes a.entry) ≡ entry_place list (i + 1) =
-        omega (arith, ap (λ (l : List Cell). length (entries_bytes l)) a.up_to, ap length (flat_map-append entry_bytes (take i list) (a.entry ∷ [])), length-append (entries_bytes (take i list)) (entries_bytes (a.entry ∷ [])), ap length one, length-append (entry_bytes a.entry) []) in
+    omega (arith, ap (λ (l : List Cell). length (entries_bytes l)) a.up_to, ap length (flat_map-append entry_bytes (take i list) (a.entry ∷ [])), length-append (entries_bytes (take i list)) (entries_bytes (a.entry ∷ [])), ap length one, length-append (entry_bytes a.entry) []) in
     ap (λ (b : List ℕ). entry_at (spot (entry_place list i) b)) bytes
     ∙ entry_again a.entry fits (entry_place list i) (entries_bytes a.behind ++ footer_bytes list)
     ∙ ap (λ (p : ℕ). Ok (a.entry, spot p (entries_bytes a.behind ++ footer_bytes list))) place
 
--- the same, for bytes that are known to be the image
-pub entry_read : (list : List Cell) (i place : ℕ) (bytes : List ℕ) → IsFileList list → (a : Around list i) → place ≡ entry_place list i → bytes ≡ image_of list
-    → entry_at (spot place (drop place bytes)) ≡ Ok (a.entry, spot (entry_place list (i + 1)) (entries_bytes a.behind ++ footer_bytes list))
-entry_read list i place bytes is a same image = ap (λ (b : List ℕ). entry_at (spot place (drop place b))) image ∙ ap (λ (p : ℕ). entry_at (spot p (drop p (image_of list)))) same ∙ entry_found list i is a
+-- the same, for bytes that are known to be the image's
+entry_read : (list : List Cell) (i place : ℕ) (bytes rest : List ℕ) → IsFileList list → (a : Around list i) → place ≡ entry_place list i → bytes ≡ image_of list → rest ≡ drop place bytes
+    → entry_at (spot place rest) ≡ Ok (a.entry, spot (entry_place list (i + 1)) (entries_bytes a.behind ++ footer_bytes list))
+entry_read list i place bytes rest is a same image cut =
+    ap (λ (b : List ℕ). entry_at (spot place b)) cut ∙ ap (λ (b : List ℕ). entry_at (spot place (drop place b))) image ∙ ap (λ (p : ℕ). entry_at (spot p (drop p (image_of list)))) same ∙ entry_found list i is a
 
--- what is read is no fault
-pub never : {A : Type 0} (r : Result A Fault) (x : A) (f : Fault) → r ≡ Ok x → r ≡ Err f → ⊥
+never : {A : Type 0} (r : Result A Fault) (x : A) (f : Fault) → r ≡ Ok x → r ≡ Err f → ⊥
 never r x f p q = let e : Ok x ≡ Err f = sym p ∙ q in absurd cc
+
+-- there is an entry
+pub no_fault : (list : List Cell) (i place : ℕ) (bytes rest : List ℕ) (f : Fault) → IsFileList list → i < length list → place ≡ entry_place list i → bytes ≡ image_of list → rest ≡ drop place bytes
+    → entry_at (spot place rest) ≡ Err f → ⊥
+no_fault list i place bytes rest f is l same image cut e =
+    let a = around list i l in
+    never (entry_at (spot place rest)) (a.entry, spot (entry_place list (i + 1)) (entries_bytes a.behind ++ footer_bytes list)) f (entry_read list i place bytes rest is a same image cut) e
+
+-- it is the entry of the list, and the next one follows it
+pub entry_and_next : (list : List Cell) (i place : ℕ) (bytes rest : List ℕ) (e : Cell) (w : Unread) → IsFileList list → i < length list → place ≡ entry_place list i → bytes ≡ image_of list → rest ≡ drop place bytes
+    → entry_at (spot place rest) ≡ Ok (e, w) → (slice_get list i ≡ Some e) × (w.at ≡ entry_place list (i + 1))
+entry_and_next list i place bytes rest e w is l same image cut read =
+    let a = around list i l in
+    let both = ok_is (a.entry, spot (entry_place list (i + 1)) (entries_bytes a.behind ++ footer_bytes list)) (e, w) (sym (entry_read list i place bytes rest is a same image cut) ∙ read) in
+    (a.is_entry ∙ ap (λ (x : Cell × Unread). Some x.0) both, sym (ap (λ (x : Cell × Unread). x.1.at) both))
 
 -- the entries of a file are within the bounds of keys and times
 pub bounded : (list : List Cell) → IsFileList list → AreEntries list

@@ -62,7 +62,7 @@ unfoldable pub flag_at : Unread → Result (Bool × Unread) Fault
 flag_at u = do
   flag ← bytes_at 1 u
   if slice_index flag.0 0 == 0 then Ok (false, flag.1)
-    else (if slice_index flag.0 0 == 1 then Ok (true, flag.1) else fault Bound u.at)
+      else (if slice_index flag.0 0 == 1 then Ok (true, flag.1) else fault Bound u.at)
 
 -- a value: its length, as long as may be, and its bytes
 unfoldable pub value_at : Bool → Unread → Result (List ℕ × Unread) Fault
@@ -79,14 +79,17 @@ key_at u = do
   visibility ← part_at qualifier.1
   time ← number_at w64 visibility.1
   deleted ← flag_at time.1
-  Ok (record {
-    row = row.0;
-    family = family.0;
-    qualifier = qualifier.0;
-    visibility = visibility.0;
-    time = cast_signed w64 time.0;
-    deleted = deleted.0;
-  }, deleted.1)
+  Ok (
+    record {
+      row = row.0;
+      family = family.0;
+      qualifier = qualifier.0;
+      visibility = visibility.0;
+      time = cast_signed w64 time.0;
+      deleted = deleted.0;
+    },
+    deleted.1,
+  )
 
 -- an entry: its key and its value
 unfoldable pub entry_at : Unread → Result (Cell × Unread) Fault

@@ -17,7 +17,7 @@ use std::alloc::Global;
 #[derive(Drop)]
 struct Body<'a> {
     /// The places of the blocks.
-    blocks: Items<u64>,
+    places: Items<u64>,
     /// The number of entries.
     count: usize,
     /// What follows the end mark.
@@ -51,28 +51,24 @@ fn take_next<'a>(
     Ok((entry, rest))
 }
 
-/// Puts the place of an entry to the blocks, if it begins one.
-fn note_block(blocks: &mut Items<u64>, count: usize, place: usize) -> Result<(), NoMemory>
-    ensures { OnOk result (blocks.new ≡ blocks.old ++ block_start count place) }
+/// Puts the place of an entry to those of the blocks, if it begins one.
+fn note_block(places: &mut Items<u64>, count: usize, place: usize) -> Result<(), NoMemory>
+    ensures { OnOk result (places.new ≡ places.old ++ block_start count place) }
 {
     if count % BLOCK_ENTRIES == 0 {
-        blocks.push(place as u64)?;
+        places.push(place as u64)?;
     }
     Ok(())
 }
 
 /// The entries up to the end mark.
-fn take_body<'a>(
-    alloc: Global,
-    most: usize,
-    input: Input<'a>,
-) -> Result<Body<'a>, OpenError>
+fn take_body<'a>(alloc: Global, most: usize, input: Input<'a>) -> Result<Body<'a>, OpenError>
     requires few { length input.rest.now ≤ most }
     requires bytes { All (λ b. b < 256) input.rest.now }
-    ensures { Opens (λ body. (body.blocks, body.count, unread_of body.rest)) result
+    ensures { Opens (λ body. (body.places, body.count, unread_of body.rest)) result
         (counted input.entry.at (entries_at most None (unread_of input.entry))) }
 {
-    let mut blocks = Items::new(alloc);
+    let mut places = Items::new(alloc);
     let mut count = 0;
     let mut before = None;
     let mut rest = input;
@@ -80,13 +76,13 @@ fn take_body<'a>(
         let (length, behind) = rest.take_u16()?;
         if length == 0 {
             return Ok(Body {
-                blocks,
+                places,
                 count,
                 rest: behind,
             });
         }
         let (entry, behind) = take_next(before, rest)?;
-        note_block(&mut blocks, count, rest.at)?;
+        note_block(&mut places, count, rest.at)?;
         count += 1;
         before = Some(entry);
         rest = behind;
@@ -135,10 +131,10 @@ pub fn read_image(alloc: Global, bytes: &[u8]) -> Result<usize, OpenError>
 {
     let input = take_head(Input { at: 0, rest: bytes })?;
     let Body {
-        blocks,
+        places,
         count,
         rest,
     } = take_body(alloc, bytes.len(), input)?;
-    take_footer(blocks.as_slice(), count, rest)?;
+    take_footer(places.as_slice(), count, rest)?;
     Ok(count)
 }

@@ -1,6 +1,6 @@
-use crate::fault::{Fault, ImageCause};
-
 ghost use Rattle.std.specs.Prelude.{◌+◌, ◌<◌, ◌^◌, length};
+
+use crate::fault::{Fault, ImageCause};
 
 /// What is not read yet of an image.
 #[derive(Clone, Copy)]

@@ -7,12 +7,12 @@ use Rattle.sorted_file.proofs.Fields.{IsBytes}
 use Rattle.sorted_file.proofs.Loops.{with_front}
 use Rattle.sorted_file.proofs.image_reading.take_body.Given as goal
 
-abbrev pub invariant-loop-blocks : goal.invariant-loop-blocks
-invariant-loop-blocks l = record {
+abbrev pub invariant-loop-places : goal.invariant-loop-places
+invariant-loop-places l = record {
   few : l.count + length l.rest.rest.now ≤ l.most;
   bytes : IsBytes l.rest.rest.now;
-  read : with_front l.blocks l.count l.rest.at (entries_at (l.most - l.count) (option_map cell_of l.before) (unread_of l.rest)) ≡ counted l.input.at (entries_at l.most None (unread_of l.input));
+  read : with_front l.places l.count l.rest.at (entries_at (l.most - l.count) (option_map cell_of l.before) (unread_of l.rest)) ≡ counted l.input.at (entries_at l.most None (unread_of l.input));
 }
 
-abbrev pub decreases-loop-blocks : goal.decreases-loop-blocks
-decreases-loop-blocks l = length l.rest.rest.now
+abbrev pub decreases-loop-places : goal.decreases-loop-places
+decreases-loop-places l = length l.rest.rest.now

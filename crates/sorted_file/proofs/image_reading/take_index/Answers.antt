@@ -1,5 +1,4 @@
-use Rattle.std.proofs.Common.{◌≡◌, ℕ, ◌+◌, List, length, get_or, drop, Result, refl, sym, ap, ◌∙◌}
-use Rattle.std.specs.Int.{w64, to_be_bytes}
+use Rattle.std.proofs.Common.{ℕ, ◌+◌, List, drop, Result, sym, ap, ◌∙◌}
 use Rattle.std.proofs.lemmas.Result.{err_from_is_err_and}
 use Rattle.sorted_file.specs.Answers.{unread_of}
 use Rattle.sorted_file.specs.Reading.{◌>>=◌, Unread, expected_at, index_at}

@@ -1,4 +1,3 @@
-use Rattle.std.proofs.Common.{◌≡◌, ◌∙◌, sym}
 use Rattle.sorted_file.proofs.Opening.{opened}
 use Rattle.sorted_file.proofs.file.SortedFile.open.Goals as goal
 
