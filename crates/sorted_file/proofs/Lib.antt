@@ -1,0 +1,12 @@
+pub mod Examples
+pub mod Fields
+pub mod Parts
+pub mod Entries
+pub mod Orders
+pub mod Images
+pub mod ImageLaws
+pub mod Building
+pub mod Loops
+pub mod Opening
+pub mod Places
+pub mod Walks

@@ -1,0 +1,37 @@
+-- What the code has of bytes that it reads, and what it answers.
+use Rattle.std.specs.Prelude.{◌≡◌, ℕ, Result, Ok, Err, List, [], length, ⊤}
+use Rattle.std.specs.Result.{result_unwrap_or}
+use Rattle.tablet_model.specs.Cell.{Cell}
+use Rattle.sorted_file.specs.Image.{blocks_from}
+use Rattle.sorted_file.specs.Reading.{◌>>=◌, Unread, image_reading}
+use Rattle.sorted_file.specs.declared.fault.Fault.{Fault}
+use Rattle.sorted_file.specs.declared.fault.OpenError.{OpenError}
+use Rattle.sorted_file.specs.declared.fault.OpenError.TheVariants.{Image, NoMemory}
+use Rattle.sorted_file.specs.declared.input.Input.{Input}
+
+-- what an input says
+abbrev pub unread_of : Input → Unread
+unread_of input = record { at = input.at; rest = input.rest.now }
+
+-- an answer, seen by view, is the reading
+abbrev pub Gives : {X Y : Type 0} → (X → Y) → Result X Fault → Result Y Fault → Type 0
+Gives view (Ok x) reading = reading ≡ Ok (view x)
+Gives view (Err fault) reading = reading ≡ Err fault
+
+-- an answer, seen by view, is the reading, unless memory was wanting
+abbrev pub Opens : {X Y : Type 0} → (X → Y) → Result X OpenError → Result Y Fault → Type 0
+Opens view (Ok x) reading = reading ≡ Ok (view x)
+Opens view (Err (Image at cause)) reading = reading ≡ Err (record { at = at; cause = cause })
+Opens view (Err NoMemory) reading = ⊤
+
+-- the blocks and the number of the entries that were read from a place on, and what follows them
+abbrev pub counted : ℕ → Result (List Cell × Unread) Fault → Result (List ℕ × ℕ × Unread) Fault
+counted at entries = entries >>= λ x. Ok (blocks_from 0 at x.0, length x.0, x.1)
+
+-- the number of the entries of an image
+abbrev pub count_in : Result (List Cell) Fault → Result ℕ Fault
+count_in list = list >>= λ l. Ok (length l)
+
+-- the list whose image some bytes are, or none
+abbrev pub list_in : List ℕ → List Cell
+list_in bytes = result_unwrap_or (image_reading bytes) []

@@ -1,0 +1,7 @@
+pub mod Image
+pub mod Lists
+pub mod Reading
+pub mod Answers
+pub mod FileParts
+pub mod BuilderParts
+pub mod CursorParts

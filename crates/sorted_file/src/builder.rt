@@ -1,0 +1,116 @@
+ghost use Rattle.std.specs.Prelude.{◌≡◌, ◌≤◌, false, [], ◌∷◌, ◌++◌, length, is_ok, if◌then◌else◌, IfOk, OnOk};
+ghost use Rattle.std.specs.Option.{option_to_list};
+ghost use Rattle.cell_key.specs.Views.{cell_of};
+ghost use Rattle.sorted_file.specs.Image.{end_magic, end_mark, index_bytes};
+ghost use Rattle.sorted_file.specs.Lists.{is_out_of_order, last_of, longest_value};
+
+use crate::entry_writing::entry_image;
+use crate::file::SortedFile;
+use crate::format::{BLOCK_ENTRIES, END_MAGIC, END_MARK, MAGIC, VERSION};
+use cell_key::{ByteText, EntryRef, NoMemory};
+use std::alloc::Global;
+use std::marker::Model;
+
+/// A file that is being written, entry by entry.
+#[derive(Drop)]
+pub struct FileBuilder {
+    alloc: Global,
+    /// The image so far, up to the last entry.
+    bytes: ByteText,
+    /// The places of its blocks.
+    blocks: Vec<u64>,
+    /// The number of entries.
+    count: usize,
+}
+
+impl Model for FileBuilder {
+    ghost use Rattle.std.specs.Prelude.{List};
+    ghost use Rattle.tablet_model.specs.Cell.{Cell};
+
+    ghost Value = { List Cell };
+
+    ghost use Rattle.sorted_file.specs.BuilderParts.{built_list, IsBuilt};
+
+    ghost view = { built_list };
+
+    ghost invariant = { IsBuilt };
+}
+
+impl FileBuilder {
+    /// A builder of no entries yet.
+    pub fn new(alloc: Global) -> Result<FileBuilder, NoMemory>
+        ensures { IfOk result (λ b. b ≡ []) }
+    {
+        let mut bytes = ByteText::new(alloc);
+        bytes.append(&MAGIC)?;
+        bytes.append(&VERSION)?;
+        Ok(FileBuilder {
+            alloc,
+            bytes,
+            blocks: Vec::new(alloc),
+            count: 0,
+        })
+    }
+
+    /// Puts an entry at the end, which does not sort before the last one; without memory the builder stays as it was.
+    /// Its value has at most 65,536 bytes, and none in a delete marker.
+    pub fn push(&mut self, entry: EntryRef<'_>) -> Result<(), NoMemory>
+        requires order { is_out_of_order (last_of self.old) (cell_of entry) ≡ false }
+        requires value { length entry.value.now ≤ longest_value entry.key.deleted }
+        ensures { self.new ≡ (if is_ok result then self.old ++ cell_of entry.entry ∷ [] else self.old) }
+    {
+        let bytes = entry_image(self.alloc, entry)?;
+        let begins_block = self.count % BLOCK_ENTRIES == 0;
+        let block = begins_block.then_some(self.bytes.len() as u64);
+        append_entry(&mut self.bytes, &mut self.blocks, block, bytes.bytes())?;
+        self.count += 1;
+        Ok(())
+    }
+
+    /// The file of the entries. After `NoMemory` the builder is gone.
+    pub fn finish(self) -> Result<SortedFile, NoMemory>
+        ensures { IfOk result (λ file. file ≡ self) }
+    {
+        let mut bytes = self.bytes;
+        bytes.append(&END_MARK)?;
+        append_index(&mut bytes, self.blocks.as_slice())?;
+        bytes.append(&(self.count as u64).to_be_bytes())?;
+        bytes.append(&END_MAGIC)?;
+        Ok(SortedFile {
+            bytes,
+            count: self.count,
+        })
+    }
+}
+
+/// Appends an entry to an image, and the place of a block to the blocks if it begins one; without memory both stay as
+/// they were.
+fn append_entry(
+    image: &mut ByteText,
+    blocks: &mut Vec<u64>,
+    block: Option<u64>,
+    entry: &[u8],
+) -> Result<(), NoMemory>
+    ensures image { image.new ≡ (if is_ok result then image.old ++ entry.now else image.old) }
+    ensures blocks { blocks.new.items ≡
+        (if is_ok result then blocks.old.items ++ option_to_list block else blocks.old.items) }
+{
+    let before = blocks.len();
+    if let Some(place) = block {
+        blocks.push(place)?;
+    }
+    if let Err(error) = image.append(entry) {
+        blocks.truncate(before);
+        return Err(error);
+    }
+    Ok(())
+}
+
+fn append_index(image: &mut ByteText, blocks: &[u64]) -> Result<(), NoMemory>
+    ensures { OnOk result (image.new ≡ image.old ++ index_bytes blocks.now) }
+{
+    for place in blocks {
+        image.append(&place.to_be_bytes())?;
+    }
+    Ok(())
+}

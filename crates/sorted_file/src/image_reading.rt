@@ -1,0 +1,140 @@
+// How an image is read.
+ghost use Rattle.std.specs.Prelude.{◌≡◌, ◌<◌, ◌≤◌, ◌++◌, None, All, OnOk, length, option_map};
+ghost use Rattle.cell_key.specs.Views.{cell_of};
+ghost use Rattle.sorted_file.specs.Answers.{Gives, Opens, count_in, counted, list_in, unread_of};
+ghost use Rattle.sorted_file.specs.Image.{block_start, image_of};
+ghost use Rattle.sorted_file.specs.Lists.{IsFileList, is_out_of_order};
+ghost use Rattle.sorted_file.specs.Reading.{entries_at, footer_at, head_at, image_reading, index_at, next_entry_at};
+
+use crate::entry_reading::take_entry;
+use crate::fault::{Fault, ImageCause, OpenError};
+use crate::format::{BLOCK_ENTRIES, END_MAGIC, MAGIC, VERSION};
+use crate::input::Input;
+use cell_key::{EntryRef, Items, NoMemory, compare_entries};
+use std::alloc::Global;
+
+/// What the entries of an image come to.
+#[derive(Drop)]
+struct Body<'a> {
+    /// The places of the blocks.
+    places: Items<u64>,
+    /// The number of entries.
+    count: usize,
+    /// What follows the end mark.
+    rest: Input<'a>,
+}
+
+/// Whether an entry sorts before the one before it, if there is one.
+#[tactic(auto, unfolding(tablet_model::specs::Order::above))]
+pub(crate) fn is_out_of_order(before: Option<EntryRef<'_>>, entry: EntryRef<'_>) -> bool
+    ensures { result ≡ is_out_of_order (option_map cell_of before.entry) (cell_of entry.entry) }
+{
+    match before {
+        None => false,
+        Some(before) => compare_entries(before, entry).is_gt(),
+    }
+}
+
+/// The next entry, which does not sort before the one before it.
+#[tactic(auto, unfolding(crate::specs::Reading::next_entry_at))]
+fn take_next<'a>(
+    before: Option<EntryRef<'_>>,
+    input: Input<'a>,
+) -> Result<(EntryRef<'a>, Input<'a>), Fault>
+    ensures { Gives (λ x. (cell_of x.0, unread_of x.1)) result
+        (next_entry_at (option_map cell_of before.entry) (unread_of input.entry)) }
+{
+    let (entry, rest) = take_entry(input)?;
+    if is_out_of_order(before, entry) {
+        return Err(input.fault(ImageCause::Order));
+    }
+    Ok((entry, rest))
+}
+
+/// Puts the place of an entry to those of the blocks, if it begins one.
+fn note_block(places: &mut Items<u64>, count: usize, place: usize) -> Result<(), NoMemory>
+    ensures { OnOk result (places.new ≡ places.old ++ block_start count place) }
+{
+    if count % BLOCK_ENTRIES == 0 {
+        places.push(place as u64)?;
+    }
+    Ok(())
+}
+
+/// The entries up to the end mark.
+fn take_body<'a>(alloc: Global, most: usize, input: Input<'a>) -> Result<Body<'a>, OpenError>
+    requires few { length input.rest.now ≤ most }
+    requires bytes { All (λ b. b < 256) input.rest.now }
+    ensures { Opens (λ body. (body.places, body.count, unread_of body.rest)) result
+        (counted input.entry.at (entries_at most None (unread_of input.entry))) }
+{
+    let mut places = Items::new(alloc);
+    let mut count = 0;
+    let mut before = None;
+    let mut rest = input;
+    loop {
+        let (length, behind) = rest.take_u16()?;
+        if length == 0 {
+            return Ok(Body {
+                places,
+                count,
+                rest: behind,
+            });
+        }
+        let (entry, behind) = take_next(before, rest)?;
+        note_block(&mut places, count, rest.at)?;
+        count += 1;
+        before = Some(entry);
+        rest = behind;
+    }
+}
+
+/// The index, which can only be these places.
+fn take_index<'a>(places: &[u64], input: Input<'a>) -> Result<Input<'a>, Fault>
+    ensures { Gives unread_of result (index_at places.now (unread_of input.entry)) }
+{
+    let mut rest = input;
+    for place in places {
+        rest = rest.expect(&place.to_be_bytes(), ImageCause::Index)?;
+    }
+    Ok(rest)
+}
+
+/// What stands behind the entries, and then nothing.
+#[tactic(auto, unfolding(crate::specs::Reading::footer_at))]
+fn take_footer<'a>(places: &[u64], count: usize, input: Input<'a>) -> Result<Input<'a>, Fault>
+    ensures { Gives unread_of result (footer_at places.now count (unread_of input.entry)) }
+{
+    let input = take_index(places, input)?;
+    let input = input.expect(&(count as u64).to_be_bytes(), ImageCause::Tail)?;
+    let input = input.expect(&END_MAGIC, ImageCause::Tail)?;
+    if !input.rest.is_empty() {
+        return Err(input.fault(ImageCause::Tail));
+    }
+    Ok(input)
+}
+
+/// What stands before the entries.
+#[tactic(auto, unfolding(crate::specs::Reading::head_at))]
+fn take_head(input: Input<'_>) -> Result<Input<'_>, Fault>
+    ensures { Gives unread_of result (head_at (unread_of input.entry)) }
+{
+    let input = input.expect(&MAGIC, ImageCause::Magic)?;
+    input.expect(&VERSION, ImageCause::Version)
+}
+
+/// The number of entries of an image.
+pub fn read_image(alloc: Global, bytes: &[u8]) -> Result<usize, OpenError>
+    ensures count { Opens (λ count. count) result (count_in (image_reading bytes.now)) }
+    ensures image { OnOk result (image_of (list_in bytes.now) ≡ bytes.now) }
+    ensures list { OnOk result (IsFileList (list_in bytes.now)) }
+{
+    let input = take_head(Input { at: 0, rest: bytes })?;
+    let Body {
+        places,
+        count,
+        rest,
+    } = take_body(alloc, bytes.len(), input)?;
+    take_footer(places.as_slice(), count, rest)?;
+    Ok(count)
+}
