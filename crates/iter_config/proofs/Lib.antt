@@ -2,5 +2,8 @@ pub mod Views
 pub mod Ordering
 pub mod Repeats
 pub mod Checking
+pub mod Prefixes
+pub mod Following
+pub mod Soundness
 pub mod OnLiterals
 pub mod Examples

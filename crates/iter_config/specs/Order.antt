@@ -1,5 +1,5 @@
 -- The order of priorities, and what configurations keep.
-use Rattle.std.specs.Prelude.{◌≡◌, Bool, true, nat_lt, List, All}
+use Rattle.std.specs.Prelude.{◌≡◌, ◌≤◌, Bool, true, nat_lt, List, length, All}
 use Rattle.std.specs.List.{IsDistinct}
 use Rattle.std.specs.List.Sorted.{IsNonDecreasingBy}
 use Rattle.tablet_model.specs.Sorted.{sorted}
@@ -19,10 +19,11 @@ in_priority_order specs = sorted runs_behind specs
 abbrev pub NoneClashes : (IterSpec → IterSpec → Bool) → List IterSpec → Type 0
 NoneClashes clash specs = IsDistinct clash specs
 
--- what each configuration keeps (this project's rules): the fields' limits; no name and no priority twice; the order of priorities; all
+-- what each configuration keeps (this project's rules): at most 16 iterators; the fields' limits; no name and no priority twice; the order of priorities; all
 -- run in scans; those of minor and of major compactions come first; the order of those; no column is combined twice; no versions in
 -- major compactions behind a combiner of columns with deletes
 pub record IsConfig (specs : List IterSpec) : Type 0 where
+  pub few : length specs ≤ 16
   pub limits : All (λ s. IsLimited s.kind) specs
   pub names : NoneClashes same_name specs
   pub priorities : NoneClashes same_priority specs

@@ -64,6 +64,7 @@ fn in_priority_order(mut iterators: Vec<IterSpec>) -> Result<Vec<IterSpec>, NoMe
     requires names { NoneClashes same_name iterators.items }
     requires priorities { NoneClashes same_priority iterators.items }
     ensures sorted { IfOk result (λ v. v.items ≡ in_priority_order iterators.items) }
+    ensures count { IfOk result (λ v. length v.items ≡ length iterators.items) }
     ensures limits { IfOk result (λ v. All (λ s. IsLimited s.kind) v.items) }
     ensures names { IfOk result (λ v. NoneClashes same_name v.items) }
     ensures priorities { IfOk result (λ v. NoneClashes same_priority v.items) }
@@ -76,7 +77,8 @@ fn in_priority_order(mut iterators: Vec<IterSpec>) -> Result<Vec<IterSpec>, NoMe
 /// The configuration of iterators in priority order, whose document has these priorities.
 #[tactic(auto, unfolding(crate::specs::Document::in_order))]
 fn in_order(priorities: &[u32], iterators: Vec<IterSpec>) -> Result<Config, ConfigError>
-    requires few { length priorities.now ≤ MAX_ITERATORS }
+    requires few_priorities { length priorities.now ≤ MAX_ITERATORS }
+    requires few { length iterators.items ≤ MAX_ITERATORS }
     requires limits { All (λ s. IsLimited s.kind) iterators.items }
     requires names { NoneClashes same_name iterators.items }
     requires priorities { NoneClashes same_priority iterators.items }

@@ -22,6 +22,6 @@ pub use config::Config;
 pub use document::read_config;
 pub use error::{ConfigError, Rule};
 pub use iter_spec::{Deletes, IterSpec, Kind, Scopes};
-pub use laws::checks_are_the_configurations;
+pub use laws::{checks_are_the_configurations, configurations_are_sound, scans_run_all_iterators};
 pub use number_values::{Encoding, Op};
 pub use predicate::Predicate;

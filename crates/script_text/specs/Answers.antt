@@ -40,6 +40,10 @@ at_line n = number_line (codes "at") n
 abbrev pub end_line : ℕ → List ℕ
 end_line n = number_line (codes "end") n
 
+-- so many entries were shown
+abbrev pub count_line : ℕ → List ℕ
+count_line n = number_line (codes "entries") n
+
 -- the answer of a scan that found these entries in a view of the first n mutations
 unfoldable pub scan_text : ℕ → List Cell → List ℕ
 scan_text n [] = end_line n

@@ -2,7 +2,7 @@
 ghost use Rattle.std.specs.Prelude.{◌≡◌, ◌++◌, IfOk, OnOk};
 ghost use Rattle.std.specs.Fmt.{decimal, signed_decimal};
 ghost use Rattle.cell_key.specs.Views.{cell_of};
-ghost use Rattle.script_text.specs.Answers.{accepted_line, at_line, end_line, entry_line, number_line, value_text};
+ghost use Rattle.script_text.specs.Answers.{accepted_line, at_line, count_line, end_line, entry_line, number_line, value_text};
 
 use cell_key::{ByteText, EntryRef, NoMemory, append_escape};
 use std::alloc::Global;
@@ -94,4 +94,11 @@ pub fn append_end(alloc: Global, text: &mut ByteText, n: u64) -> Result<(), NoMe
     ensures { OnOk result (text.new ≡ text.old ++ end_line n) }
 {
     append_number_line(alloc, text, b"end", n)
+}
+
+/// Appends `entries N`: so many entries were shown.
+pub fn append_count(alloc: Global, text: &mut ByteText, n: u64) -> Result<(), NoMemory>
+    ensures { OnOk result (text.new ≡ text.old ++ count_line n) }
+{
+    append_number_line(alloc, text, b"entries", n)
 }

@@ -20,7 +20,7 @@ mod tests;
 mod updates;
 mod words;
 
-pub use answers::{append_accepted, append_at, append_end, append_entry, entry_text};
+pub use answers::{append_accepted, append_at, append_count, append_end, append_entry, entry_text};
 pub use grammar::parse_line;
 pub use line::{Line, LineError};
 pub use line_laws::lines_are_whole;

@@ -116,9 +116,10 @@ fn writes_answers(rt: HostRuntime) -> Result<(), Fail> {
         },
     )?;
     append_end(alloc, &mut text, 0)?;
+    append_count(alloc, &mut text, 12)?;
     append_refusal(alloc, &mut text, &Refusal::Bound(Part::Row))?;
     let want =
-        b"m 1\nat 18446744073709551615\nr2 :: @-9223372036854775808 -\nend 0\nno bound row\n";
+        b"m 1\nat 18446744073709551615\nr2 :: @-9223372036854775808 -\nend 0\nentries 12\nno bound row\n";
     assert_eq!(rt; text.bytes(), want.as_slice());
 
     let cases = [

@@ -1,10 +1,14 @@
 -- What each status says of the source and of the sink. All of this is this project's own.
-use Rattle.std.specs.Prelude.{◌≡◌, ℕ, ◌≤◌, ◌<◌, Bool, true, false, Option, Some, List, [], ◌++◌, length, IfSome, ⊤}
+use Rattle.std.specs.Prelude.{◌≡◌, ℕ, ◌≤◌, ◌<◌, if◌then◌else◌, Option, Some, None, List, [], ◌++◌, length, IfSome, ⊤}
 use Rattle.tablet_io.specs.Causes.{Rose}
 use Rattle.tablet_io.specs.Streams.{Took, IsFrontTaken}
 use Rattle.tablet_io.specs.declared.status.Status.{Status}
 use Rattle.tablet_io.specs.declared.status.Status.TheVariants.{Done, Usage, BadConfig, ReadFault, WriteFault, NoMemory, TooLong, BadImage}
+use Rattle.tablet_cli.specs.Packing.{pack_text}
 use Rattle.tablet_cli.specs.Replay.{is_refused, replay_text}
+use Rattle.tablet_cli.specs.Showing.{is_no_image, show_text}
+use Rattle.tablet_cli.specs.declared.words.Command.{Command}
+use Rattle.tablet_cli.specs.declared.words.Command.TheVariants.{Replay, Pack, Show}
 use Rattle.tablet_cli.specs.Words.{usage_line}
 
 -- what a source or a sink tells of its bytes, and its count of faults, before a call and after it
@@ -46,23 +50,46 @@ IsWritten o text = IfSome o.before (λ taken. o.after ≡ Some (taken ++ text))
 abbrev pub IsFrontWritten : Port → List ℕ → Type 0
 IsFrontWritten o text = IsFrontTaken text o.before o.after
 
--- what `replay` does, by its status: over a source that tells its bytes the text is that of these bytes
-abbrev pub Replays : Port → Port → Status → Type 0
-Replays i o Done = IfSome i.before (λ bytes. WasRead i bytes × (is_refused bytes ≡ false) × IsWritten o (replay_text bytes))
-Replays i o BadConfig = IfSome i.before (λ bytes. WasRead i bytes × (is_refused bytes ≡ true) × IsWritten o (replay_text bytes))
-Replays i o WriteFault = HasFault o × IfSome i.before (λ bytes. WasRead i bytes × IsFrontWritten o (replay_text bytes))
-Replays i o ReadFault = HasFault i × IsUntouched o
-Replays i o TooLong = IfSome i.before (WasTooLong i) × IsUntouched o
-Replays i o NoMemory = IsUntouched o
-Replays i o Usage = ⊥
-Replays i o BadImage = ⊥
+-- what a command does that reads an input, by its status: over a source that tells its bytes the text is that of these bytes, and its
+-- end is theirs, unless a fault or want of memory comes between
+abbrev pub Answers : (List ℕ → List ℕ) → (List ℕ → Status) → Port → Port → Status → Type 0
+Answers text end i o WriteFault = HasFault o × IfSome i.before (λ bytes. WasRead i bytes × IsFrontWritten o (text bytes))
+Answers text end i o ReadFault = HasFault i × IsUntouched o
+Answers text end i o TooLong = IfSome i.before (WasTooLong i) × IsUntouched o
+Answers text end i o NoMemory = IsUntouched o
+Answers text end i o Usage = ⊥
+Answers text end i o status = IfSome i.before (λ bytes. WasRead i bytes × (end bytes ≡ status) × IsWritten o (text bytes))
 
--- what `run` does, by whether the words are `replay`
-abbrev pub Runs : Bool → Port → Port → Status → Type 0
-Runs true i o status = Replays i o status
-Runs false i o Usage = IsUntouched i × IsWritten o usage_line
-Runs false i o WriteFault = IsUntouched i × HasFault o × IsFrontWritten o usage_line
-Runs false i o _ = ⊥
+-- how a command ends that reads a configuration
+abbrev pub config_end : List ℕ → Status
+config_end bytes = if is_refused bytes then BadConfig else Done
+
+-- how a command ends that reads an image
+abbrev pub image_end : List ℕ → Status
+image_end bytes = if is_no_image bytes then BadImage else Done
+
+-- what a command writes for an input
+abbrev pub command_text : Command → List ℕ → List ℕ
+command_text Replay bytes = replay_text bytes
+command_text Pack bytes = pack_text bytes
+command_text Show bytes = show_text bytes
+
+-- how it ends, where nothing comes between
+abbrev pub command_end : Command → List ℕ → Status
+command_end Replay bytes = config_end bytes
+command_end Pack bytes = config_end bytes
+command_end Show bytes = image_end bytes
+
+-- what a command does
+abbrev pub Performs : Command → Port → Port → Status → Type 0
+Performs command i o status = Answers (command_text command) (command_end command) i o status
+
+-- what `run` does, by the command that the words name
+abbrev pub Runs : Option Command → Port → Port → Status → Type 0
+Runs (Some command) i o status = Performs command i o status
+Runs None i o Usage = IsUntouched i × IsWritten o usage_line
+Runs None i o WriteFault = IsUntouched i × HasFault o × IsFrontWritten o usage_line
+Runs None i o _ = ⊥
 
 -- the whole text was written, or memory was wanting
 abbrev pub IsDoneOrNoMemory : Status → Type 0
@@ -70,6 +97,11 @@ IsDoneOrNoMemory Done = ⊤
 IsDoneOrNoMemory NoMemory = ⊤
 IsDoneOrNoMemory _ = ⊥
 
--- with an input that is not too long, a configuration that is not refused and no fault there is no other end
-abbrev pub IsComplete : Port → Port → Status → Type 0
-IsComplete i o status = IfSome i.before (λ bytes. length bytes ≤ max_input → is_refused bytes ≡ false → ¬ HasFault i → ¬ HasFault o → IsDoneOrNoMemory status)
+-- with an input that is not too long, an accepted configuration or an image, and no fault there is no other end
+abbrev pub IsComplete : Command → Port → Port → Status → Type 0
+IsComplete command i o status = IfSome i.before (λ bytes. length bytes ≤ max_input → command_end command bytes ≡ Done → ¬ HasFault i → ¬ HasFault o → IsDoneOrNoMemory status)
+
+-- the same of the command that the words name, if they name one
+abbrev pub IsRunComplete : Option Command → Port → Port → Status → Type 0
+IsRunComplete None i o status = ⊤
+IsRunComplete (Some command) i o status = IsComplete command i o status

@@ -1,13 +1,22 @@
 -- The words of the command line. All of this is this project's own.
-use Rattle.std.specs.Prelude.{ℕ, Bool, false, List, [], ◌∷◌, codes, String}
+use Rattle.std.specs.Prelude.{ℕ, if◌then◌else◌, List, [], ◌∷◌, Option, Some, None, codes, String}
 use Rattle.std.specs.Str.{bytes_eq}
 use Rattle.std.specs.String.{string_bytes}
 use Rattle.std.specs.declared.alloc.Global.{Global}
+use Rattle.tablet_cli.specs.declared.words.Command.{Command}
+use Rattle.tablet_cli.specs.declared.words.Command.TheVariants.{Replay, Pack, Show}
 
--- the words are the one word `replay`
-abbrev pub is_replay : List (String Global) → Bool
-is_replay (word ∷ []) = bytes_eq (string_bytes word) (codes "replay")
-is_replay _ = false
+-- the command of one word
+abbrev pub command_of_word : List ℕ → Option Command
+command_of_word word =
+    if bytes_eq word (codes "replay") then Some Replay else
+    if bytes_eq word (codes "pack") then Some Pack else
+    if bytes_eq word (codes "show") then Some Show else None
+
+-- the command that the words name, if they name one
+abbrev pub command_of : List (String Global) → Option Command
+command_of (word ∷ []) = command_of_word (string_bytes word)
+command_of _ = None
 
 -- what is written where the words name no command
 abbrev pub usage_line : List ℕ

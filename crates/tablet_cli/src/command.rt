@@ -1,8 +1,10 @@
-ghost use Rattle.std.specs.Prelude.{◌≡◌, ◌≤◌, true};
-ghost use Rattle.tablet_cli.specs.Words.{is_replay};
-ghost use Rattle.tablet_cli.specs.Outcome.{Replays, Runs, IsComplete, port};
+ghost use Rattle.std.specs.Prelude.{◌≡◌};
+ghost use Rattle.tablet_cli.specs.Words.{command_of};
+ghost use Rattle.tablet_cli.specs.Outcome.{IsComplete, IsRunComplete, Performs, Runs, port};
+ghost use Rattle.tablet_cli.specs.declared.words.Command.TheVariants.{Replay, Pack, Show};
 
-use crate::script::reply_to;
+use crate::reply::reply_to;
+use crate::words::{Command, command_of};
 use cell_key::NoMemory;
 use std::alloc::Global;
 use std::sync::Wait;
@@ -14,13 +16,15 @@ pub const MAX_INPUT: usize = 8_388_608;
 
 const USAGE: &[u8] = b"usage: replay | live SCANNERS CHUNK BATCH | pack | show | gen START SIZE\n";
 
-/// Reads an input to its end, and writes the answers to its script, or why its configuration is refused.
-///
-/// `ReadFault` and `WriteFault` come only where that end's count of faults rose in this call, `TooLong` exactly where more than
-/// `MAX_INPUT` bytes were taken, and `BadConfig` exactly where the configuration is refused.
-pub fn replay<I: Source, O: Sink>(alloc: Global, input: &mut I, output: &mut O) -> Status
-    ensures outcome { Replays (port I.left I.faults input.old input.new) (port O.taken O.faults output.old output.new) result }
-    ensures complete { IsComplete (port I.left I.faults input.old input.new) (port O.taken O.faults output.old output.new) result }
+/// Reads an input to its end, and writes what a command makes of it.
+fn perform<I: Source, O: Sink>(
+    command: Command,
+    alloc: Global,
+    input: &mut I,
+    output: &mut O,
+) -> Status
+    ensures outcome { Performs command (port I.left I.faults input.old input.new) (port O.taken O.faults output.old output.new) result }
+    ensures complete { IsComplete command (port I.left I.faults input.old input.new) (port O.taken O.faults output.old output.new) result }
 {
     let bytes = match read_all(alloc, input, MAX_INPUT) {
         Ok(bytes) => bytes,
@@ -28,15 +32,45 @@ pub fn replay<I: Source, O: Sink>(alloc: Global, input: &mut I, output: &mut O) 
         Err(ReadError::TooLong) => return Status::TooLong,
         Err(ReadError::NoMemory) => return Status::NoMemory,
     };
-    let reply = match reply_to(alloc, bytes.bytes()) {
+    let reply = match reply_to(command, alloc, bytes) {
         Ok(reply) => reply,
         Err(NoMemory) => return Status::NoMemory,
     };
     match write_all(output, reply.text.bytes()) {
-        Ok(_) if reply.is_refusal => Status::BadConfig,
-        Ok(_) => Status::Done,
+        Ok(_) => reply.end,
         Err(WriteFault) => Status::WriteFault,
     }
+}
+
+/// Reads an input to its end, and writes the answers to its script, or why its configuration is refused.
+///
+/// `ReadFault` and `WriteFault` come only where that end's count of faults rose in this call, `TooLong` exactly where more than
+/// `MAX_INPUT` bytes were taken, and `BadConfig` exactly where the configuration is refused.
+pub fn replay<I: Source, O: Sink>(alloc: Global, input: &mut I, output: &mut O) -> Status
+    ensures outcome { Performs Replay (port I.left I.faults input.old input.new) (port O.taken O.faults output.old output.new) result }
+    ensures complete { IsComplete Replay (port I.left I.faults input.old input.new) (port O.taken O.faults output.old output.new) result }
+{
+    perform(Command::Replay, alloc, input, output)
+}
+
+/// Reads an input to its end, and writes the image of what the iterators of compactions make of the live entries of its script's
+/// mutations, or why its configuration is refused. Other lines, and mutations that are refused, have no effect. It ends as
+/// [`replay`] does.
+pub fn pack<I: Source, O: Sink>(alloc: Global, input: &mut I, output: &mut O) -> Status
+    ensures outcome { Performs Pack (port I.left I.faults input.old input.new) (port O.taken O.faults output.old output.new) result }
+    ensures complete { IsComplete Pack (port I.left I.faults input.old input.new) (port O.taken O.faults output.old output.new) result }
+{
+    perform(Command::Pack, alloc, input, output)
+}
+
+/// Reads an image to its end, and writes its entries and how many they are, or why it is none.
+///
+/// `BadImage` comes exactly where the input is no image, and the other ends as with [`replay`].
+pub fn show<I: Source, O: Sink>(alloc: Global, input: &mut I, output: &mut O) -> Status
+    ensures outcome { Performs Show (port I.left I.faults input.old input.new) (port O.taken O.faults output.old output.new) result }
+    ensures complete { IsComplete Show (port I.left I.faults input.old input.new) (port O.taken O.faults output.old output.new) result }
+{
+    perform(Command::Show, alloc, input, output)
 }
 
 /// Runs the command that the words name.
@@ -50,23 +84,14 @@ pub fn run<R: Threads + Wait + Sync, I: Source, O: Sink, G: Gate + Sync>(
     output: &mut O,
     _gate: &G,
 ) -> Status
-    ensures outcome { Runs (is_replay words.now) (port I.left I.faults input.old input.new) (port O.taken O.faults output.old output.new) result }
-    ensures complete { is_replay words.now ≡ true → IsComplete (port I.left I.faults input.old input.new) (port O.taken O.faults output.old output.new) result }
+    ensures outcome { Runs (command_of words.now) (port I.left I.faults input.old input.new) (port O.taken O.faults output.old output.new) result }
+    ensures complete { IsRunComplete (command_of words.now) (port I.left I.faults input.old input.new) (port O.taken O.faults output.old output.new) result }
 {
-    if is_replay(words) {
-        return replay(alloc, input, output);
-    }
-    match write_all(output, USAGE) {
-        Ok(_) => Status::Usage,
-        Err(WriteFault) => Status::WriteFault,
-    }
-}
-
-fn is_replay(words: &[String]) -> bool
-    ensures { result ≡ is_replay words.now }
-{
-    match words {
-        [word] => word.as_str() == "replay",
-        _ => false,
+    match command_of(words) {
+        Some(command) => perform(command, alloc, input, output),
+        None => match write_all(output, USAGE) {
+            Ok(_) => Status::Usage,
+            Err(WriteFault) => Status::WriteFault,
+        },
     }
 }

@@ -1,13 +1,19 @@
-ghost use Rattle.std.specs.Prelude.{◌≡◌, ◌<◌, ◌^◌, ◌++◌, [], ◌∷◌, length, map, pos, IfOk, OnOk};
+ghost use Rattle.std.specs.Prelude.{◌≡◌, ◌<◌, ◌^◌, ◌++◌, [], ◌∷◌, length, map, option_map, pos, IfOk, OnOk};
 ghost use Rattle.tablet_model.specs.Bounds.{KeyBounds};
 ghost use Rattle.tablet_model.specs.Order.{above};
 ghost use Rattle.tablet_model.specs.Sorted.{Ascends};
+ghost use Rattle.tablet_model.specs.Ingest.{IsHistory};
 ghost use Rattle.tablet_model.specs.History.{entries_of, entry_of, history_entries, numbered};
 ghost use Rattle.cell_key.specs.Mutations.{change_of, row_change_of};
 ghost use Rattle.cell_key.specs.Views.{cell_of};
+ghost use Rattle.iter_config.specs.RulesOf.{rules_of};
 ghost use Rattle.tablet_cli.specs.Bounds.{AreInBounds, IsInBounds};
+ghost use Rattle.ingest.specs.Refusals.{refusal_of};
+ghost use Rattle.tablet_cli.specs.Replay.{mutation_after, refused_by};
 
 use cell_key::{Entries, Entry, EntryRef, KeyRef, Mutation, Mutations, NoMemory, Update};
+use ingest::{Refused, check};
+use iter_config::Config;
 use std::alloc::Global;
 use std::marker::Model;
 
@@ -46,8 +52,26 @@ impl History {
         self.log.len()
     }
 
+    /// Takes a mutation in, at the end, or says why it stays out.
+    pub fn apply(
+        &mut self,
+        config: &Config,
+        mutation: Mutation,
+    ) -> Result<Option<Refused>, NoMemory>
+        requires { IsHistory (rules_of config.now) (map row_change_of self.old) }
+        ensures refusal { IfOk result (λ refused. option_map refusal_of refused ≡ refused_by config.now self.old mutation) }
+        ensures log { OnOk result (self.new ≡ mutation_after self.old mutation (refused_by config.now self.old mutation)) }
+        ensures history { OnOk result (IsHistory (rules_of config.now) (map row_change_of self.new)) }
+    {
+        if let Some(refused) = check(config, self.log.len() as u64, &mutation) {
+            return Ok(Some(refused));
+        }
+        self.push(mutation)?;
+        Ok(None)
+    }
+
     /// One mutation more, at the end.
-    pub fn push(&mut self, mutation: Mutation) -> Result<(), NoMemory>
+    fn push(&mut self, mutation: Mutation) -> Result<(), NoMemory>
         requires { IsInBounds mutation }
         ensures { OnOk result (self.new ≡ self.old ++ mutation ∷ []) }
     {

@@ -1,15 +1,17 @@
-// The program: the words of the command line, the text that answers a script, and the status of a run.
+// The program: the words of the command line, what each command writes, and the status of a run.
 #![tactic(auto)]
 
 mod command;
-mod drain;
 mod history;
-mod ingest;
+mod packing;
 mod refusal;
+mod reply;
 mod scan;
 mod script;
+mod showing;
 #[cfg(test)]
 mod tests;
+mod words;
 
 use crate::command::run;
 use std::io::ErrorKind;

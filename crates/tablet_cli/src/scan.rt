@@ -1,42 +1,59 @@
 // The answer to a scan: the configured stack over the live entries of a history.
-ghost use Rattle.std.specs.Prelude.{◌≡◌, ◌++◌, length, IfOk, OnOk};
+ghost use Rattle.std.specs.Prelude.{◌≡◌, ◌++◌, length, map, IfOk, OnOk};
+ghost use Rattle.tablet_model.specs.Cuts.{within};
+ghost use Rattle.tablet_model.specs.Families.{in_families};
+ghost use Rattle.tablet_model.specs.Ingest.{IsHistory};
 ghost use Rattle.tablet_model.specs.Order.{above};
 ghost use Rattle.tablet_model.specs.Sorted.{Ascends};
-ghost use Rattle.tablet_model.specs.Markers.{live};
-ghost use Rattle.tablet_model.specs.Stages.{stage, stages};
+ghost use Rattle.cell_key.specs.Mutations.{row_change_of};
+ghost use Rattle.cell_key.specs.Ranges.{span_of};
 ghost use Rattle.iter_contract.specs.VecRest.{vec_cells};
-ghost use Rattle.iter_config.specs.Iterators.{IsLimited};
-ghost use Rattle.iter_config.specs.Stages.{stage_of, stages_of};
+ghost use Rattle.iter_config.specs.RulesOf.{rules_of};
 ghost use Rattle.script_text.specs.Answers.{entry_lines, scan_text};
 ghost use Rattle.tablet_cli.specs.Replay.{scanned};
 
-use crate::drain::drain;
 use crate::history::History;
-use cell_key::{ByteText, Entries, NoMemory};
-use delete_iter::LiveIter;
-use iter_config::{Config, IterSpec, Kind};
-use iter_contract::VecSource;
+use cell_key::{ByteText, Entries, Entry, Families, NoMemory, Range, RangeBuf};
+use iter_config::Config;
+use iter_contract::{SortedSource, VecSource};
+use iter_stack::{Usage, build};
 use script_text::{append_at, append_end, append_entry};
 use std::alloc::Global;
 use std::sync::Arc;
-use versioning::VersionIter;
 
-/// Appends the answer to a scan of all keys over a history.
+/// Appends the answer to a scan over a history.
 pub fn append_scan(
     alloc: Global,
     config: &Config,
     history: &History,
+    range: &RangeBuf,
+    families: &Families,
     text: &mut ByteText,
 ) -> Result<(), NoMemory>
-    ensures { OnOk result (text.new ≡ text.old ++ scan_text (length history.now) (scanned config.now history.now)) }
+    requires { IsHistory (rules_of config.now) (map row_change_of history.now) }
+    ensures { OnOk result (text.new ≡ text.old ++ scan_text (length history.now) (scanned config.now range.now families.now history.now)) }
 {
-    let entries = live_entries(alloc, history.entries(alloc)?)?;
-    let entries = stacked(alloc, config, entries)?;
-    append_entries(alloc, history.len(), &entries, text)
+    let entries = chosen(alloc, &history.entries(alloc)?, families)?;
+    let stack = build(alloc, config, Usage::Scan, source_over(alloc, entries)?)?;
+    append_found(alloc, history.len() as u64, stack, &range.range(), text)
+}
+
+/// The entries of some families.
+fn chosen(alloc: Global, entries: &Entries, families: &Families) -> Result<Entries, NoMemory>
+    ensures { IfOk result (λ list. list ≡ in_families families.now entries.now) }
+{
+    let mut list = Entries::new(alloc);
+    for entry in entries.as_slice() {
+        let entry = entry.entry();
+        if families.has(entry.key.family) {
+            list.push(Entry::of(alloc, entry)?)?;
+        }
+    }
+    Ok(list)
 }
 
 /// A source over entries that are in order.
-fn source_over(alloc: Global, entries: Entries) -> Result<VecSource, NoMemory>
+pub fn source_over(alloc: Global, entries: Entries) -> Result<VecSource, NoMemory>
     requires { Ascends above entries }
     ensures { IfOk result (λ source. vec_cells source ≡ entries) }
 {
@@ -44,66 +61,53 @@ fn source_over(alloc: Global, entries: Entries) -> Result<VecSource, NoMemory>
     Ok(VecSource::new(entries))
 }
 
-/// The live ones of entries that are in order.
-fn live_entries(alloc: Global, entries: Entries) -> Result<Entries, NoMemory>
-    requires { Ascends above entries }
-    ensures entries { IfOk result (λ left. left ≡ live entries) }
-    ensures ascends { IfOk result (Ascends above) }
-{
-    let source = source_over(alloc, entries)?;
-    drain(alloc, LiveIter::new(alloc, source)?)
-}
-
-/// What one iterator makes of entries that are in order.
-#[tactic(auto, unfolding(tablet_model::specs::Stages::stage))]
-fn staged(alloc: Global, spec: &IterSpec, entries: Entries) -> Result<Entries, NoMemory>
-    requires ascends { Ascends above entries }
-    requires limits { IsLimited spec.now.kind }
-    ensures entries { IfOk result (λ left. left ≡ stage (stage_of spec.now.kind) entries) }
-    ensures ascends { IfOk result (Ascends above) }
-{
-    let source = source_over(alloc, entries)?;
-    match &spec.kind {
-        Kind::Versions { max } => drain(alloc, VersionIter::new(alloc, source, *max)?),
-    }
-}
-
-/// What a configuration's iterators make of entries that are in order, one after another.
-fn stacked(alloc: Global, config: &Config, entries: Entries) -> Result<Entries, NoMemory>
-    requires { Ascends above entries }
-    ensures { IfOk result (λ left. left ≡ stages (stages_of config.now) entries) }
-{
-    let mut entries = entries;
-    for i in 0..config.count() {
-        entries = staged(alloc, config.iterator(i), entries)?;
-    }
-    Ok(entries)
-}
-
-/// Appends the text of a scan that found these entries, over so many mutations.
-#[tactic(auto, unfolding(script_text::specs::Answers::scan_text))]
-fn append_entries(
+/// Appends the text of a scan that finds what a source has in a range, over so many mutations.
+fn append_found<S: SortedSource>(
     alloc: Global,
-    count: usize,
-    entries: &Entries,
+    mutations: u64,
+    source: S,
+    range: &Range<'_>,
     text: &mut ByteText,
 ) -> Result<(), NoMemory>
-    ensures { OnOk result (text.new ≡ text.old ++ scan_text count entries.now) }
+    requires { S.valid source }
+    ensures { OnOk result (text.new ≡ text.old ++ scan_text mutations (within (span_of range.now) (S.cells source))) }
 {
-    if entries.is_empty() {
-        return append_end(alloc, text, count as u64);
-    }
-    append_at(alloc, text, count as u64)?;
-    append_lines(alloc, entries, text)?;
-    append_end(alloc, text, count as u64)
+    let mut source = source;
+    source.seek(range)?;
+    append_rest(alloc, mutations, &mut source, text)
 }
 
-/// Appends the lines of entries.
-fn append_lines(alloc: Global, entries: &Entries, text: &mut ByteText) -> Result<(), NoMemory>
-    ensures { OnOk result (text.new ≡ text.old ++ entry_lines entries.now) }
+/// Appends the text of a scan that finds what a source has left.
+#[tactic(auto, unfolding(script_text::specs::Answers::scan_text))]
+fn append_rest<S: SortedSource>(
+    alloc: Global,
+    mutations: u64,
+    source: &mut S,
+    text: &mut ByteText,
+) -> Result<(), NoMemory>
+    requires { S.valid source.old }
+    ensures { OnOk result (text.new ≡ text.old ++ scan_text mutations (S.rest source.old)) }
 {
-    for entry in entries.as_slice() {
-        append_entry(alloc, text, entry.entry())?;
+    if source.top().is_none() {
+        return append_end(alloc, text, mutations);
+    }
+    append_at(alloc, text, mutations)?;
+    append_lines(alloc, source, text)?;
+    append_end(alloc, text, mutations)
+}
+
+/// Appends the lines of the entries that a source has left.
+pub fn append_lines<S: SortedSource>(
+    alloc: Global,
+    source: &mut S,
+    text: &mut ByteText,
+) -> Result<(), NoMemory>
+    requires { S.valid source.old }
+    ensures { OnOk result (text.new ≡ text.old ++ entry_lines (S.rest source.old)) }
+{
+    while let Some(entry) = source.top() {
+        append_entry(alloc, text, entry)?;
+        source.next()?;
     }
     Ok(())
 }

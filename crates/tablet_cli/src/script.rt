@@ -1,49 +1,22 @@
-ghost use Rattle.std.specs.Prelude.{◌≡◌, ◌++◌, [], IfOk, OnOk};
+// Scripts, line by line.
+ghost use Rattle.std.specs.Prelude.{◌≡◌, ◌++◌, [], map, IfOk, OnOk};
+ghost use Rattle.tablet_model.specs.Ingest.{IsHistory};
+ghost use Rattle.cell_key.specs.Mutations.{row_change_of};
+ghost use Rattle.iter_config.specs.RulesOf.{rules_of};
 ghost use Rattle.script_text.specs.Grammar.{line_of};
 ghost use Rattle.script_text.specs.Lines.{lines_of};
-ghost use Rattle.tablet_cli.specs.Bounds.{part_out};
-ghost use Rattle.tablet_cli.specs.Replay.{history_after, is_refused, line_answer, mutation_after, mutation_answer, replay_text, script_answers};
+ghost use Rattle.tablet_cli.specs.Replay.{history_after, line_answer, mutation_after, mutation_answer, refused_by, script_answers};
 
 use crate::history::History;
-use crate::ingest::part_out;
-use crate::refusal::config_line;
+use crate::refusal::told;
 use crate::scan::append_scan;
 use cell_key::{ByteText, Mutation, NoMemory};
-use iter_config::{Config, ConfigError, read_config};
-use script_text::{
-    Line, LineError, Lines, Refusal, append_accepted, append_refusal, parse_line, split_input,
-};
+use iter_config::Config;
+use script_text::{Line, LineError, Lines, Refusal, append_accepted, append_refusal, parse_line};
 use std::alloc::Global;
 
-/// What is written for an input, and whether that is why its configuration is refused.
-#[derive(Drop)]
-pub struct Reply {
-    pub text: ByteText,
-    pub is_refusal: bool,
-}
-
-/// The reply to an input.
-#[tactic(auto, unfolding(crate::specs::Replay::replay_text))]
-pub fn reply_to(alloc: Global, input: &[u8]) -> Result<Reply, NoMemory>
-    ensures text { IfOk result (λ reply. reply.text ≡ replay_text input.now) }
-    ensures refusal { IfOk result (λ reply. reply.is_refusal ≡ is_refused input.now) }
-{
-    let (config, script) = split_input(input);
-    match read_config(alloc, config) {
-        Ok(config) => Ok(Reply {
-            text: answers_to(alloc, &config, script)?,
-            is_refusal: false,
-        }),
-        Err(ConfigError::Refused { rule, at }) => Ok(Reply {
-            text: config_line(alloc, rule, at)?,
-            is_refusal: true,
-        }),
-        Err(ConfigError::NoMemory) => Err(NoMemory),
-    }
-}
-
 /// The answers to the lines of a script.
-fn answers_to(alloc: Global, config: &Config, script: &[u8]) -> Result<ByteText, NoMemory>
+pub fn answers_to(alloc: Global, config: &Config, script: &[u8]) -> Result<ByteText, NoMemory>
     ensures { IfOk result (λ text. text ≡ script_answers config.now [] (lines_of script.now)) }
 {
     let mut text = ByteText::new(alloc);
@@ -54,7 +27,7 @@ fn answers_to(alloc: Global, config: &Config, script: &[u8]) -> Result<ByteText,
     Ok(text)
 }
 
-/// Answers a line, and adds its mutation to the history where it is one that is accepted.
+/// Answers a line, and adds its mutation to the history where it is one that comes in.
 #[tactic(auto, unfolding(crate::specs::Replay::line_answer, crate::specs::Replay::history_after))]
 fn answer_line(
     alloc: Global,
@@ -63,31 +36,38 @@ fn answer_line(
     line: &[u8],
     text: &mut ByteText,
 ) -> Result<(), NoMemory>
+    requires { IsHistory (rules_of config.now) (map row_change_of history.old) }
     ensures text { OnOk result (text.new ≡ text.old ++ line_answer config.now history.old (line_of line.now)) }
-    ensures history { OnOk result (history.new ≡ history_after history.old (line_of line.now)) }
+    ensures history { OnOk result (history.new ≡ history_after config.now history.old (line_of line.now)) }
+    ensures lawful { OnOk result (IsHistory (rules_of config.now) (map row_change_of history.new)) }
 {
     match parse_line(alloc, line) {
         Err(LineError::NoMemory) => Err(NoMemory),
-        Err(LineError::Syntax) => append_refusal(text, &Refusal::Syntax),
+        Err(LineError::Syntax) => append_refusal(alloc, text, &Refusal::Syntax),
         Ok(Line::Nothing) => Ok(()),
-        Ok(Line::Mutate(mutation)) => answer_mutation(alloc, history, mutation, text),
-        Ok(Line::Scan) => append_scan(alloc, config, history, text),
+        Ok(Line::Mutate(mutation)) => answer_mutation(alloc, config, history, mutation, text),
+        Ok(Line::Scan { range, families }) => {
+            append_scan(alloc, config, history, &range, &families, text)
+        }
+        Ok(_) => append_refusal(alloc, text, &Refusal::Syntax),
     }
 }
 
-/// Adds a mutation to the history, or says which of its parts is out of bounds.
+/// Adds a mutation to the history, or says why it stays out.
 fn answer_mutation(
     alloc: Global,
+    config: &Config,
     history: &mut History,
     mutation: Mutation,
     text: &mut ByteText,
 ) -> Result<(), NoMemory>
-    ensures text { OnOk result (text.new ≡ text.old ++ mutation_answer history.old (part_out mutation)) }
-    ensures history { OnOk result (history.new ≡ mutation_after history.old mutation (part_out mutation)) }
+    requires { IsHistory (rules_of config.now) (map row_change_of history.old) }
+    ensures text { OnOk result (text.new ≡ text.old ++ mutation_answer history.old (refused_by config.now history.old mutation)) }
+    ensures history { OnOk result (history.new ≡ mutation_after history.old mutation (refused_by config.now history.old mutation)) }
+    ensures lawful { OnOk result (IsHistory (rules_of config.now) (map row_change_of history.new)) }
 {
-    if let Some(part) = part_out(&mutation) {
-        return append_refusal(text, &Refusal::Bound(part));
+    match history.apply(config, mutation)? {
+        Some(refused) => append_refusal(alloc, text, &told(refused)),
+        None => append_accepted(alloc, text, history.len() as u64),
     }
-    history.push(mutation)?;
-    append_accepted(alloc, text, history.len() as u64)
 }

@@ -8,6 +8,7 @@ pub of-requires : goal.of-requires
 of-requires c =
     let number : List IterSpec → IterSpec → ℕ = λ before s. number_by c.args.priorities.now s in
     record {
+      few = c.requires.few;
       limits = c.requires.limits;
       names = c.requires.names;
       priorities = c.requires.priorities;
