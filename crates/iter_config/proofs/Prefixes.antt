@@ -38,7 +38,7 @@ module _ {X : Type 0} where
   filter_none p [] h = refl
   filter_none p (x ∷ xs) h = rw h.0 (filter_none p xs h.1)
 
-  filter_same : (p q : X → Bool) (xs : List X) → AllByRecursion (λ x. p x ≡ q x) xs → filter p xs ≡ filter q xs
+  pub filter_same : (p q : X → Bool) (xs : List X) → AllByRecursion (λ x. p x ≡ q x) xs → filter p xs ≡ filter q xs
   filter_same p q [] h = refl
   filter_same p q (x ∷ xs) h = rw h.0 (ap (λ l. cond (q x) (x ∷ l) l) (filter_same p q xs h.1))
 

@@ -1,4 +1,4 @@
-mod Bounded
 mod Examples
 mod Numbered
 mod Scans
+mod Packs

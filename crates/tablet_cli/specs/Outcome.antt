@@ -7,8 +7,8 @@ use Rattle.tablet_io.specs.declared.status.Status.TheVariants.{Done, Usage, BadC
 use Rattle.tablet_cli.specs.Packing.{pack_text}
 use Rattle.tablet_cli.specs.Replay.{is_refused, replay_text}
 use Rattle.tablet_cli.specs.Showing.{is_no_image, show_text}
-use Rattle.tablet_cli.specs.declared.words.Command.{Command}
-use Rattle.tablet_cli.specs.declared.words.Command.TheVariants.{Replay, Pack, Show}
+use Rattle.tablet_cli.specs.declared.command_word.Command.{Command}
+use Rattle.tablet_cli.specs.declared.command_word.Command.TheVariants.{Replay, Pack, Show}
 use Rattle.tablet_cli.specs.Words.{usage_line}
 
 -- what a source or a sink tells of its bytes, and its count of faults, before a call and after it

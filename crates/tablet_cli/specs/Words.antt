@@ -3,8 +3,8 @@ use Rattle.std.specs.Prelude.{ℕ, if◌then◌else◌, List, [], ◌∷◌, Opt
 use Rattle.std.specs.Str.{bytes_eq}
 use Rattle.std.specs.String.{string_bytes}
 use Rattle.std.specs.declared.alloc.Global.{Global}
-use Rattle.tablet_cli.specs.declared.words.Command.{Command}
-use Rattle.tablet_cli.specs.declared.words.Command.TheVariants.{Replay, Pack, Show}
+use Rattle.tablet_cli.specs.declared.command_word.Command.{Command}
+use Rattle.tablet_cli.specs.declared.command_word.Command.TheVariants.{Replay, Pack, Show}
 
 -- the command of one word
 abbrev pub command_of_word : List ℕ → Option Command

@@ -1,10 +1,10 @@
 ghost use Rattle.std.specs.Prelude.{◌≡◌};
 ghost use Rattle.tablet_cli.specs.Words.{command_of};
 ghost use Rattle.tablet_cli.specs.Outcome.{IsComplete, IsRunComplete, Performs, Runs, port};
-ghost use Rattle.tablet_cli.specs.declared.words.Command.TheVariants.{Replay, Pack, Show};
+ghost use Rattle.tablet_cli.specs.declared.command_word.Command.TheVariants.{Replay, Pack, Show};
 
+use crate::command_word::{Command, command_of};
 use crate::reply::reply_to;
-use crate::words::{Command, command_of};
 use cell_key::NoMemory;
 use std::alloc::Global;
 use std::sync::Wait;

@@ -2,6 +2,7 @@
 #![tactic(auto)]
 
 mod command;
+mod command_word;
 mod history;
 mod packing;
 mod refusal;
@@ -11,7 +12,6 @@ mod script;
 mod showing;
 #[cfg(test)]
 mod tests;
-mod words;
 
 use crate::command::run;
 use std::io::ErrorKind;

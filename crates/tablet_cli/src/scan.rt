@@ -1,5 +1,5 @@
 // The answer to a scan: the configured stack over the live entries of a history.
-ghost use Rattle.std.specs.Prelude.{◌≡◌, ◌++◌, length, map, IfOk, OnOk};
+ghost use Rattle.std.specs.Prelude.{◌≡◌, ◌++◌, [], ◌∷◌, length, map, IfOk, OnOk};
 ghost use Rattle.tablet_model.specs.Cuts.{within};
 ghost use Rattle.tablet_model.specs.Families.{in_families};
 ghost use Rattle.tablet_model.specs.Ingest.{IsHistory};
@@ -33,8 +33,10 @@ pub fn append_scan(
     requires { IsHistory (rules_of config.now) (map row_change_of history.now) }
     ensures { OnOk result (text.new ≡ text.old ++ scan_text (length history.now) (scanned config.now range.now families.now history.now)) }
 {
-    let entries = chosen(alloc, &history.entries(alloc)?, families)?;
-    let stack = build(alloc, config, Usage::Scan, source_over(alloc, entries)?)?;
+    let all = history.entries(alloc)?;
+    let entries = chosen(alloc, &all, families)?;
+    let leaf = source_over(alloc, entries)?;
+    let stack = build(alloc, config, Usage::Scan, leaf)?;
     append_found(alloc, history.len() as u64, stack, &range.range(), text)
 }
 
@@ -44,12 +46,25 @@ fn chosen(alloc: Global, entries: &Entries, families: &Families) -> Result<Entri
 {
     let mut list = Entries::new(alloc);
     for entry in entries.as_slice() {
-        let entry = entry.entry();
-        if families.has(entry.key.family) {
-            list.push(Entry::of(alloc, entry)?)?;
-        }
+        push_chosen(alloc, &mut list, entry, families)?;
     }
     Ok(list)
+}
+
+/// Puts an entry at the end, if it is of some families.
+fn push_chosen(
+    alloc: Global,
+    list: &mut Entries,
+    entry: &Entry,
+    families: &Families,
+) -> Result<(), NoMemory>
+    ensures { OnOk result (list.new ≡ list.old ++ in_families families.now (entry.now ∷ [])) }
+{
+    let entry = entry.entry();
+    if families.has(entry.key.family) {
+        list.push(Entry::of(alloc, entry)?)?;
+    }
+    Ok(())
 }
 
 /// A source over entries that are in order.

@@ -1,7 +1,13 @@
-use Rattle.std.proofs.Common.{◌≡◌, ◌++◌, []}
+use Rattle.std.proofs.Common.{◌≡◌, ◌++◌, [], map}
+use Rattle.tablet_model.specs.Ingest.{IsHistory}
+use Rattle.cell_key.specs.Mutations.{row_change_of}
+use Rattle.iter_config.specs.RulesOf.{rules_of}
 use Rattle.script_text.specs.Lines.{lines_of}
 use Rattle.tablet_cli.specs.Replay.{script_answers}
 use Rattle.tablet_cli.proofs.script.answers_to.Given as goal
 
 abbrev pub invariant-loop-line : goal.invariant-loop-line
-invariant-loop-line l = l.text ++ script_answers l.config l.history l.line-iterator ≡ script_answers l.config [] (lines_of l.script)
+invariant-loop-line l = record {
+  text : l.text ++ script_answers l.config l.history l.line-iterator ≡ script_answers l.config [] (lines_of l.script);
+  lawful : IsHistory (rules_of l.config) (map row_change_of l.history);
+}

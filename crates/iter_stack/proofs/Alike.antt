@@ -1,0 +1,116 @@
+-- Stages of one meaning take and make the same.
+use Rattle.std.proofs.Common.{◌≡◌, ◌≢◌, ℤ, Bool, true, false, ◌&&◌, cond, List, [], Option, refl, ap, sym, ◌∙◌, subst}
+use Rattle.std.specs.Prelude.{⊤}
+use Rattle.std.specs.Arc.{arc_value}
+use Rattle.tablet_model.specs.Cell.{Cell}
+use Rattle.tablet_model.specs.Cuts.{is_before}
+use Rattle.tablet_model.specs.Combines.{combined}
+use Rattle.tablet_model.specs.Filters.{filtered}
+use Rattle.tablet_model.specs.Reductions.{Reduction}
+use Rattle.tablet_model.specs.Stages.{by_column, by_cell, stage}
+use Rattle.cell_key.specs.Listed.{column_listed}
+use Rattle.cell_key.specs.declared.column_name.ColumnName.{ColumnName}
+use Rattle.number_values.specs.Arrays.{array_reduction}
+use Rattle.number_values.specs.Numbers.{number_reduction}
+use Rattle.number_values.specs.Values.{reduction_of}
+use Rattle.number_values.specs.declared.op.Encoding.{Encoding}
+use Rattle.number_values.specs.declared.op.Op.{Op}
+use Rattle.number_values.specs.declared.op.Op.TheVariants as op
+use Rattle.combiners.specs.ArrayParts.{array_reducer_reduction, array_reducer_joined}
+use Rattle.combiners.specs.CombineStages.{combine_left, CombineFits}
+use Rattle.combiners.specs.Gathers.{AreRead, combined_from, held_of, up_to}
+use Rattle.combiners.specs.LongParts.{long_reduction, long_joined}
+use Rattle.combiners.specs.declared.array_reducer.ArrayReducer.{ArrayReducer}
+use Rattle.combiners.specs.declared.long_reducer.LongReducer.{LongReducer}
+use Rattle.combiners.specs.declared.stage.CombineStage.{CombineStage}
+use Rattle.filters.specs.FilterStages.{test_of, IsUnsought}
+use Rattle.filters.specs.declared.stage.FilterStage.{FilterStage}
+use Rattle.iter_config.specs.Predicates.{is_of_column, keeps, filter_stage}
+use Rattle.iter_config.specs.declared.predicate.Predicate.{Predicate}
+use Rattle.iter_stack.specs.LevelStages.{AreCombinable, IsFresh}
+use Rattle.iter_stack.specs.Usages.{is_of_arrays}
+use Rattle.iter_stack.specs.declared.stage.LevelStage.TheVariants as level
+
+-- combiners of the same columns make the same of equal lists
+pub combined_alike : {F G : List ColumnName} {r q : Reduction} {A B : List Cell} → F ≡ G → r ≡ q → A ≡ B → combined (column_listed F) r A ≡ combined (column_listed G) q B
+combined_alike {F} {G} {r} {q} {A} {B} f h e =
+    ap (λ c. combined (column_listed c) r A) f ∙ ap (λ p. combined (column_listed G) p A) h ∙ ap (combined (column_listed G) q) e
+
+-- a combiner that is not sought fits to a source of entries that it takes
+pub combine_fits : {R : Type 0} (reduction : R → Reduction) (joined : R → Option (List ℤ)) (s : CombineStage R) → s.is_sought ≡ false → (A : List Cell)
+    → AreCombinable (arc_value s.columns) (reduction s.reducer) A → CombineFits reduction joined s A []
+combine_fits reduction joined s unsought A taken = (taken.0, taken.1, λ sought. let no : true ≡ false = sym sought ∙ unsought in cc)
+
+-- and has nothing left
+pub combine_unsought : {R : Type 0} (reduction : R → Reduction) (joined : R → Option (List ℤ)) (s : CombineStage R) → s.is_sought ≡ false → (rest : List Cell) → combine_left reduction joined s rest ≡ []
+combine_unsought reduction joined s unsought rest = go s.is_sought unsought
+  where
+    go : (b : Bool) → b ≡ false → cond b (up_to (λ e. is_before s.range.end e.key) (combined_from (arc_value s.columns) (reduction s.reducer) (held_of s.is_held s.column s.time (joined s.reducer)) rest)) [] ≡ []
+    go true h = let no : true ≡ false = h in cc
+    go false h = refl
+
+and_true : (source : Bool) → (source && true) ≡ source
+and_true true = refl
+and_true false = refl
+
+and_false : (source : Bool) → (source && false) ≡ false
+and_false true = refl
+and_false false = refl
+
+-- new stages for these columns and this reduction
+module _ (columns : List ColumnName) (r : Reduction) (steady : Bool → Bool) where
+  taken : {R : Type 0} (reduction : R → Reduction) (s : CombineStage R) → arc_value s.columns ≡ columns → reduction s.reducer ≡ r → (list : List Cell) → AreCombinable columns r list
+      → AreCombinable (arc_value s.columns) (reduction s.reducer) list
+  taken reduction s c e list t =
+      subst (λ n. AreCombinable n (reduction s.reducer) list) (sym c) (subst (λ q. AreRead columns q list) (sym e) t.0, t.1)
+
+  pub fresh_longs : (s : CombineStage LongReducer) → arc_value s.columns ≡ columns → long_reduction s.reducer ≡ r → s.is_sought ≡ false → ((source : Bool) → (source && true) ≡ steady source)
+      → IsFresh (combined (column_listed columns) r) steady (AreCombinable columns r) (level.CombineLongs s)
+  fresh_longs s c e unsought same = record {
+    same_cells = λ list. combined_alike c e refl;
+    unsought = combine_unsought long_reduction long_joined s unsought [];
+    same_steady = same;
+    takes = λ list t. combine_fits long_reduction long_joined s unsought list (taken long_reduction s c e list t);
+  }
+
+  pub fresh_arrays : (s : CombineStage ArrayReducer) → arc_value s.columns ≡ columns → array_reducer_reduction s.reducer ≡ r → s.is_sought ≡ false → ((source : Bool) → (source && false) ≡ steady source)
+      → IsFresh (combined (column_listed columns) r) steady (AreCombinable columns r) (level.CombineArrays s)
+  fresh_arrays s c e unsought same = record {
+    same_cells = λ list. combined_alike c e refl;
+    unsought = combine_unsought array_reducer_reduction array_reducer_joined s unsought [];
+    same_steady = same;
+    takes = λ list t. combine_fits array_reducer_reduction array_reducer_joined s unsought list (taken array_reducer_reduction s c e list t);
+  }
+
+-- the operations of numbers
+pub fresh_numbers : (columns : List ColumnName) (o : Op) (e : Encoding) → o ≢ op.ArraySum → (s : CombineStage LongReducer) → arc_value s.columns ≡ columns → long_reduction s.reducer ≡ number_reduction o e → s.is_sought ≡ false
+    → IsFresh (combined (column_listed columns) (reduction_of o e)) (λ source. cond (is_of_arrays o) false source) (AreCombinable columns (reduction_of o e)) (level.CombineLongs s)
+unfolding reduction_of
+fresh_numbers columns op.Sum e not s c h unsought = fresh_longs columns (number_reduction op.Sum e) (λ source. source) s c h unsought and_true
+fresh_numbers columns op.Min e not s c h unsought = fresh_longs columns (number_reduction op.Min e) (λ source. source) s c h unsought and_true
+fresh_numbers columns op.Max e not s c h unsought = fresh_longs columns (number_reduction op.Max e) (λ source. source) s c h unsought and_true
+fresh_numbers columns op.ArraySum e not s c h unsought = absurd (not refl)
+
+-- and that of arrays
+pub fresh_sums : (columns : List ColumnName) (e : Encoding) (s : CombineStage ArrayReducer) → arc_value s.columns ≡ columns → array_reducer_reduction s.reducer ≡ array_reduction e → s.is_sought ≡ false
+    → IsFresh (combined (column_listed columns) (reduction_of op.ArraySum e)) (λ source. false) (AreCombinable columns (reduction_of op.ArraySum e)) (level.CombineArrays s)
+unfolding reduction_of
+fresh_sums columns e s c h unsought = fresh_arrays columns (array_reduction e) (λ source. false) s c h unsought and_false
+
+-- a new filter
+pub fresh_filter : (predicate : Predicate) (negate : Bool) (s : FilterStage) → test_of s ≡ keeps predicate negate → IsUnsought s
+    → IsFresh (stage (filter_stage predicate negate)) (λ source. source) (λ list. ⊤) (level.Filter s)
+unfolding stage filter_stage
+fresh_filter predicate negate s same unsought = record {
+  same_cells = λ list. ap (λ test. filtered test list) same ∙ filters (is_of_column predicate) list;
+  unsought = cond_false s.is_sought unsought;
+  same_steady = λ source. refl;
+  takes = λ list t sought. refl;
+}
+  where
+    filters : (b : Bool) (list : List Cell) → filtered (keeps predicate negate) list ≡ stage (cond b (by_column (keeps predicate negate)) (by_cell (keeps predicate negate))) list
+    filters true list = refl
+    filters false list = refl
+
+    cond_false : (b : Bool) → b ≡ false → cond b (filtered (test_of s) []) [] ≡ []
+    cond_false b h = ap (λ c. cond c (filtered (test_of s) []) []) h

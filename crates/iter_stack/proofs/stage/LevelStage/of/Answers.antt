@@ -1,0 +1,21 @@
+use Rattle.std.proofs.Common.{◌≡◌, rules, sym, ap, ◌∙◌, subst}
+use Rattle.std.specs.Prelude.{IfOk}
+use Rattle.tablet_model.specs.Stages.{stage}
+use Rattle.iter_config.specs.Predicates.{keeps}
+use Rattle.iter_config.specs.Stages.{stage_of}
+use Rattle.iter_config.specs.declared.iter_spec.Kind.{Kind}
+use Rattle.iter_stack.specs.LevelStages.{IsFresh}
+use Rattle.iter_stack.specs.Places.{kind_steady, KindTakes}
+use Rattle.iter_stack.specs.declared.stage.LevelStage.TheVariants as level
+use Rattle.iter_stack.proofs.Alike.{fresh_filter}
+use Rattle.iter_stack.proofs.stage.LevelStage.of.Goals as goal
+
+pub returns-in_ok-predicate-in-Filter : goal.returns-in_ok-predicate-in-Filter
+returns-in_ok-predicate-in-Filter c =
+    subst (λ (k : Kind). IsFresh (stage (stage_of k)) (kind_steady k) (KindTakes k) (level.Filter c.new-in-Filter.result)) (sym c.in-Filter.is)
+    (fresh_filter c.in-Filter.predicate c.in-Filter.negate c.new-in-Filter.result (c.new-in-Filter.ensures.test ∙ ap (λ p. keeps p c.in-Filter.negate) (search rules)) c.new-in-Filter.ensures.unsought)
+
+pub returns-in-Combine : goal.returns-in-Combine
+unfolding stage
+returns-in-Combine c =
+    subst (λ (k : Kind). IfOk c.combiner.result (IsFresh (stage (stage_of k)) (kind_steady k) (KindTakes k))) (sym c.in-Combine.is) c.combiner.ensures

@@ -1,0 +1,121 @@
+-- What the stage of a level makes of its source. All of this is this project's own.
+use Rattle.std.specs.Prelude.{◌≡◌, List, [], Bool, ⊤}
+use Rattle.std.specs.Arc.{arc_value}
+use Rattle.tablet_model.specs.Cell.{Cell}
+use Rattle.tablet_model.specs.Order.{above}
+use Rattle.tablet_model.specs.Sorted.{Ascends}
+use Rattle.tablet_model.specs.Bounds.{IsEntry, AreEntries}
+use Rattle.tablet_model.specs.Markers.{live, is_live, mark, is_unmarked}
+use Rattle.tablet_model.specs.Versions.{versions, is_recent}
+use Rattle.tablet_model.specs.Filters.{filtered}
+use Rattle.tablet_model.specs.Reductions.{Reduction}
+use Rattle.tablet_model.specs.Reading.{AreInFront}
+use Rattle.tablet_model.proofs.Sums.{all_filter}
+use Rattle.tablet_model.proofs.OneColumn.{Ascends-live}
+use Rattle.tablet_model.proofs.Risings.{all_kept, Ascends-mark, Ascends-versions, Ascends-filtered, Ascends-combined}
+use Rattle.cell_key.specs.declared.column_name.ColumnName.{ColumnName}
+use Rattle.cell_key.specs.Listed.{column_listed, listed_of_columns}
+use Rattle.delete_iter.specs.MarkStages.{mark_left, MarkFits, live_left, LiveFits}
+use Rattle.versioning.specs.VersionStages.{most_in, version_left, VersionFits}
+use Rattle.filters.specs.FilterStages.{test_of, passes, filter_left, FilterFits}
+use Rattle.combiners.specs.ArrayParts.{array_reducer_reduction, array_reducer_joined, array_reducer_steady}
+use Rattle.combiners.specs.CombineLaws.{combined_bounded}
+use Rattle.combiners.specs.CombineStages.{combine_cells, combine_left, combine_steady, CombineFits}
+use Rattle.combiners.specs.Gathers.{AreRead}
+use Rattle.combiners.specs.LongParts.{long_reduction, long_joined, long_steady}
+use Rattle.iter_stack.specs.declared.stage.LevelStage.{LevelStage}
+use Rattle.iter_stack.specs.declared.stage.LevelStage.TheVariants as level
+
+-- what a stage makes of its source's entries
+abbrev pub stage_cells : LevelStage → List Cell → List Cell
+stage_cells level.Same list = list
+stage_cells (level.Live s) list = live list
+stage_cells (level.Mark s) list = mark list
+stage_cells (level.Filter s) list = filtered (test_of s) list
+stage_cells (level.Versions s) list = versions (most_in s) list
+stage_cells (level.CombineLongs s) list = combine_cells long_reduction s list
+stage_cells (level.CombineArrays s) list = combine_cells array_reducer_reduction s list
+
+-- what it has left, where `rest` is left of the source
+abbrev pub stage_left : LevelStage → List Cell → List Cell
+stage_left level.Same rest = rest
+stage_left (level.Live s) rest = live_left s rest
+stage_left (level.Mark s) rest = mark_left s rest
+stage_left (level.Filter s) rest = filter_left s rest
+stage_left (level.Versions s) rest = version_left s rest
+stage_left (level.CombineLongs s) rest = combine_left long_reduction long_joined s rest
+stage_left (level.CombineArrays s) rest = combine_left array_reducer_reduction array_reducer_joined s rest
+
+-- whether it is steady, where `source` says whether the source is
+abbrev pub stage_steady : LevelStage → Bool → Bool
+stage_steady level.Same source = source
+stage_steady (level.Live s) source = source
+stage_steady (level.Mark s) source = source
+stage_steady (level.Filter s) source = source
+stage_steady (level.Versions s) source = source
+stage_steady (level.CombineLongs s) source = combine_steady long_steady s source
+stage_steady (level.CombineArrays s) source = combine_steady array_reducer_steady s source
+
+-- it fits to a source that has these entries, of which `rest` is left
+abbrev pub StageFits : LevelStage → List Cell → List Cell → Type 0
+StageFits level.Same cells rest = ⊤
+StageFits (level.Live s) cells rest = LiveFits s rest
+StageFits (level.Mark s) cells rest = MarkFits s rest
+StageFits (level.Filter s) cells rest = FilterFits s rest
+StageFits (level.Versions s) cells rest = VersionFits s rest
+StageFits (level.CombineLongs s) cells rest = CombineFits long_reduction long_joined s cells rest
+StageFits (level.CombineArrays s) cells rest = CombineFits array_reducer_reduction array_reducer_joined s cells rest
+
+-- in the listed columns each value is read, and no other entry stands after a marker
+abbrev pub AreCombinable : List ColumnName → Reduction → List Cell → Type 0
+AreCombinable names r list = AreRead names r list × AreInFront (column_listed names) [] list
+
+-- what a stage that is not sought asks of its source's entries
+abbrev pub StageTakes : LevelStage → List Cell → Type 0
+StageTakes level.Same cells = ⊤
+StageTakes (level.Live s) cells = ⊤
+StageTakes (level.Mark s) cells = ⊤
+StageTakes (level.Filter s) cells = ⊤
+StageTakes (level.Versions s) cells = ⊤
+StageTakes (level.CombineLongs s) cells = AreCombinable (arc_value s.columns) (long_reduction s.reducer) cells
+StageTakes (level.CombineArrays s) cells = AreCombinable (arc_value s.columns) (array_reducer_reduction s.reducer) cells
+
+-- a stage that is not sought, of these entries, as steady, over each source whose entries it may have
+pub record IsFresh (cells : List Cell → List Cell) (steady : Bool → Bool) (Takes : List Cell → Type 0) (it : LevelStage)
+    : Type 0 where
+  pub same_cells : (list : List Cell) → stage_cells it list ≡ cells list
+  pub unsought : stage_left it [] ≡ []
+  pub same_steady : (source : Bool) → stage_steady it source ≡ steady source
+  pub takes : (list : List Cell) → Takes list → StageFits it list []
+
+-- a stage that is not sought, of these entries, over any source
+pub record IsBottom (cells : List Cell → List Cell) (it : LevelStage) : Type 0 where
+  pub same_cells : (list : List Cell) → stage_cells it list ≡ cells list
+  pub unsought : (rest : List Cell) → stage_left it rest ≡ []
+  pub same_steady : (source : Bool) → stage_steady it source ≡ source
+  pub fits : (list rest : List Cell) → StageFits it list rest
+
+-- what a stage makes is in order
+pub stage_sorted : (s : LevelStage) (list : List Cell) → Ascends above list → Ascends above (stage_cells s list)
+stage_sorted level.Same list up = up
+stage_sorted (level.Live s) list up = Ascends-live list up
+stage_sorted (level.Mark s) list up = Ascends-mark list up
+stage_sorted (level.Filter s) list up = Ascends-filtered (test_of s) list up
+stage_sorted (level.Versions s) list up = Ascends-versions (most_in s) list up
+stage_sorted (level.CombineLongs s) list up =
+    Ascends-combined (column_listed (arc_value s.columns)) (listed_of_columns (arc_value s.columns)) (long_reduction s.reducer) list up
+stage_sorted (level.CombineArrays s) list up =
+    Ascends-combined (column_listed (arc_value s.columns)) (listed_of_columns (arc_value s.columns)) (array_reducer_reduction s.reducer) list up
+
+-- what a stage makes is within bounds
+pub stage_bounded : (s : LevelStage) (list : List Cell) → AreEntries list → AreEntries (stage_cells s list)
+unfolding live mark filtered versions
+stage_bounded level.Same list all = all
+stage_bounded (level.Live s) list all = all_filter IsEntry (is_live list) list all
+stage_bounded (level.Mark s) list all = all_kept IsEntry is_unmarked [] list all
+stage_bounded (level.Filter s) list all = all_filter IsEntry (passes s) list all
+stage_bounded (level.Versions s) list all = all_kept IsEntry (is_recent (most_in s)) [] list all
+stage_bounded (level.CombineLongs s) list all =
+    combined_bounded (column_listed (arc_value s.columns)) (long_reduction s.reducer) list all
+stage_bounded (level.CombineArrays s) list all =
+    combined_bounded (column_listed (arc_value s.columns)) (array_reducer_reduction s.reducer) list all

@@ -1,0 +1,94 @@
+-- What the iterators of a configuration make of a list, one after another. All of this is this project's own.
+use Rattle.std.specs.Prelude.{◌≡◌, ℕ, ◌+◌, Bool, true, false, cond, List, [], ◌∷◌, Option, Some, None, slice_get, ⊤}
+use Rattle.tablet_model.specs.Cell.{Cell}
+use Rattle.tablet_model.specs.Markers.{live, mark}
+use Rattle.tablet_model.specs.Stages.{stage}
+use Rattle.number_values.specs.Values.{reduction_of}
+use Rattle.iter_config.specs.Stages.{stage_of}
+use Rattle.iter_config.specs.declared.iter_spec.IterSpec.{IterSpec}
+use Rattle.iter_config.specs.declared.iter_spec.Kind.{Kind}
+use Rattle.iter_config.specs.declared.iter_spec.Kind.TheVariants.{Filter, Versions, Combine}
+use Rattle.iter_stack.specs.LevelStages.{AreCombinable}
+use Rattle.iter_stack.specs.Usages.{runs_in, is_array_sum}
+use Rattle.iter_stack.specs.declared.usage.Usage.{Usage}
+use Rattle.iter_stack.specs.declared.usage.Usage.TheVariants.{Scan, Minc, MajcPart, MajcFull}
+
+-- what deletes leave of a leaf's entries
+abbrev pub bottom_cells : Usage → List Cell → List Cell
+bottom_cells Scan list = live list
+bottom_cells Minc list = mark list
+bottom_cells MajcPart list = mark list
+bottom_cells MajcFull list = live list
+
+-- what a kind of iterator asks of its list
+abbrev pub KindTakes : Kind → List Cell → Type 0
+KindTakes (Filter predicate negate) list = ⊤
+KindTakes (Versions max) list = ⊤
+KindTakes (Combine op columns encoding deletes) list = AreCombinable columns (reduction_of op encoding) list
+
+-- whether it leaves a source steady
+abbrev pub kind_steady : Kind → Bool → Bool
+kind_steady kind source = cond (is_array_sum kind) false source
+
+-- what an iterator makes of a list, if it runs
+abbrev pub made_by : Usage → IterSpec → List Cell → List Cell
+made_by usage s list = cond (runs_in usage s) (stage (stage_of s.kind) list) list
+
+-- whether it leaves a source steady, if it runs
+abbrev pub steady_by : Usage → IterSpec → Bool → Bool
+steady_by usage s source = cond (runs_in usage s) (kind_steady s.kind source) source
+
+-- it takes a list, if it runs
+abbrev pub TakesBy : Usage → IterSpec → List Cell → Type 0
+TakesBy usage s list = runs_in usage s ≡ true → KindTakes s.kind list
+
+-- what the iterator makes, if there is one
+abbrev pub made_at : Usage → Option IterSpec → List Cell → List Cell
+made_at usage None list = list
+made_at usage (Some s) list = made_by usage s list
+
+-- whether it leaves a source steady
+abbrev pub steady_at : Usage → Option IterSpec → Bool → Bool
+steady_at usage None source = source
+steady_at usage (Some s) source = steady_by usage s source
+
+-- it takes a list
+abbrev pub TakesAt : Usage → Option IterSpec → List Cell → Type 0
+TakesAt usage None list = ⊤
+TakesAt usage (Some s) list = TakesBy usage s list
+
+-- what the iterators at a place and the three behind it make, one after another
+abbrev pub four_made : Usage → List IterSpec → ℕ → List Cell → List Cell
+four_made usage specs i list =
+    made_at usage (slice_get specs (i + 3)) (made_at usage (slice_get specs (i + 2)) (made_at usage (slice_get specs (i + 1))
+    (made_at usage (slice_get specs i) list)))
+
+-- whether they leave a source steady
+abbrev pub steady_by_four : Usage → List IterSpec → ℕ → Bool → Bool
+steady_by_four usage specs i source =
+    steady_at usage (slice_get specs (i + 3)) (steady_at usage (slice_get specs (i + 2)) (steady_at usage (slice_get specs (i + 1))
+    (steady_at usage (slice_get specs i) source)))
+
+-- each takes what the one before it makes
+abbrev pub FourTake : Usage → List IterSpec → ℕ → List Cell → Type 0
+FourTake usage specs i list =
+    let one = made_at usage (slice_get specs i) list in
+    let two = made_at usage (slice_get specs (i + 1)) one in
+    let three = made_at usage (slice_get specs (i + 2)) two in
+    TakesAt usage (slice_get specs i) list × TakesAt usage (slice_get specs (i + 1)) one
+    × TakesAt usage (slice_get specs (i + 2)) two × TakesAt usage (slice_get specs (i + 3)) three
+
+-- what all iterators make, one after another
+unfoldable pub all_made : Usage → List IterSpec → List Cell → List Cell
+all_made usage [] list = list
+all_made usage (s ∷ ss) list = all_made usage ss (made_by usage s list)
+
+-- whether they leave a source steady
+unfoldable pub steady_by_all : Usage → List IterSpec → Bool → Bool
+steady_by_all usage [] source = source
+steady_by_all usage (s ∷ ss) source = steady_by_all usage ss (steady_by usage s source)
+
+-- each takes what the one before it makes
+unfoldable pub AllTake : Usage → List IterSpec → List Cell → Type 0
+AllTake usage [] list = ⊤
+AllTake usage (s ∷ ss) list = TakesBy usage s list × AllTake usage ss (made_by usage s list)

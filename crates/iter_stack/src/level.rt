@@ -1,0 +1,97 @@
+#![tactic(auto, unfolding(crate::specs::Levels::level_cells, crate::specs::Levels::level_rest, crate::specs::Levels::level_steady, crate::specs::Levels::level_valid))]
+ghost use Rattle.std.specs.Prelude.{◌<◌, length};
+
+use crate::stage::LevelStage;
+use cell_key::{EntryRef, NoMemory, Range};
+use combiners::{combine_next, combine_seek, combine_top};
+use delete_iter::{live_next, live_seek, live_top, mark_next, mark_seek, mark_top};
+use filters::{filter_next, filter_seek, filter_top};
+use iter_contract::SortedSource;
+use std::alloc::Global;
+use versioning::{version_next, version_seek, version_top};
+
+/// One stage over a source. The source is the first of `sources`: so levels may stand one over another.
+#[derive(Drop)]
+pub struct Level<S> {
+    pub(crate) sources: Vec<S>,
+    pub(crate) stage: LevelStage,
+    ghost some: { 0 < length sources.items },
+}
+
+impl<S: SortedSource> Level<S> {
+    ghost use Rattle.std.specs.Prelude.{◌≡◌, false, [], IfOk};
+    ghost use Rattle.std.specs.List.{AllByRecursion};
+    ghost use Rattle.iter_stack.specs.Firsts.{at_first};
+
+    /// A stage over a source. It takes memory.
+    pub(crate) fn over(alloc: Global, source: S, stage: LevelStage) -> Result<Level<S>, NoMemory>
+        requires { S.valid source }
+        ensures stage { IfOk result (λ it. it.stage ≡ stage) }
+        ensures cells { IfOk result (λ it. at_first S.cells [] it.sources.items ≡ S.cells source) }
+        ensures rest { IfOk result (λ it. at_first S.rest [] it.sources.items ≡ S.rest source) }
+        ensures steady { IfOk result (λ it. at_first S.steady false it.sources.items ≡ S.steady source) }
+        ensures valid { IfOk result (λ it. AllByRecursion S.valid it.sources.items) }
+    {
+        let mut sources = Vec::new(alloc);
+        sources.push(source)?;
+        Ok(Level { sources, stage })
+    }
+}
+
+impl<S: SortedSource> SortedSource for Level<S> {
+    ghost use Rattle.iter_stack.specs.Levels.{level_cells, level_rest, level_steady, level_valid, level_sorted, level_bounded};
+
+    ghost cells = { level_cells S.cells };
+
+    ghost rest = { level_rest S.rest };
+
+    ghost steady = { level_steady S.steady };
+
+    ghost valid = { level_valid S.cells S.rest S.valid };
+
+    ghost sorted = { level_sorted S.cells S.sorted };
+
+    ghost bounded = { level_bounded S.cells S.bounded };
+
+    fn seek(&mut self, range: &Range<'_>) -> Result<(), NoMemory> {
+        match &mut self.stage {
+            LevelStage::Same => self.sources[0].seek(range),
+            LevelStage::Live(stage) => live_seek(&mut self.sources[0], stage, range),
+            LevelStage::Mark(stage) => mark_seek(&mut self.sources[0], stage, range),
+            LevelStage::Filter(stage) => filter_seek(&mut self.sources[0], stage, range),
+            LevelStage::Versions(stage) => version_seek(&mut self.sources[0], stage, range),
+            LevelStage::CombineLongs(stage) => combine_seek(&mut self.sources[0], stage, range),
+            LevelStage::CombineArrays(stage) => combine_seek(&mut self.sources[0], stage, range),
+        }
+    }
+
+    fn top(&self) -> Option<EntryRef<'_>> {
+        match &self.stage {
+            LevelStage::Same => self.sources[0].top(),
+            LevelStage::Live(stage) => live_top(&self.sources[0], stage),
+            LevelStage::Mark(stage) => mark_top(&self.sources[0], stage),
+            LevelStage::Filter(stage) => filter_top(&self.sources[0], stage),
+            LevelStage::Versions(stage) => version_top(&self.sources[0], stage),
+            LevelStage::CombineLongs(stage) => combine_top(&self.sources[0], stage),
+            LevelStage::CombineArrays(stage) => combine_top(&self.sources[0], stage),
+        }
+    }
+
+    fn next(&mut self) -> Result<(), NoMemory> {
+        match &mut self.stage {
+            LevelStage::Same => self.sources[0].next(),
+            LevelStage::Live(stage) => live_next(&mut self.sources[0], stage),
+            LevelStage::Mark(stage) => mark_next(&mut self.sources[0], stage),
+            LevelStage::Filter(stage) => filter_next(&mut self.sources[0], stage),
+            LevelStage::Versions(stage) => version_next(&mut self.sources[0], stage),
+            LevelStage::CombineLongs(stage) => combine_next(&mut self.sources[0], stage),
+            LevelStage::CombineArrays(stage) => combine_next(&mut self.sources[0], stage),
+        }
+    }
+
+    fn deep_copy(&self, alloc: Global) -> Result<Level<S>, NoMemory> {
+        let source = self.sources[0].deep_copy(alloc)?;
+        let stage = self.stage.fresh(alloc)?;
+        Level::over(alloc, source, stage)
+    }
+}

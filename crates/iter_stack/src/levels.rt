@@ -1,0 +1,97 @@
+// Levels for the iterators of a configuration.
+ghost use Rattle.std.specs.Prelude.{◌≡◌, ◌≤◌, [], IfOk, slice_get};
+ghost use Rattle.iter_contract.specs.Copies.{IsCopy};
+ghost use Rattle.iter_stack.specs.LevelStages.{IsFresh};
+ghost use Rattle.iter_stack.specs.Levels.{level_cells, level_rest, level_steady, level_valid};
+ghost use Rattle.iter_stack.specs.Stacks.{four_cells, four_rest, four_steady, four_valid};
+ghost use Rattle.iter_stack.specs.Places.{bottom_cells, made_at, steady_at, TakesAt, four_made, steady_by_four, FourTake};
+
+use crate::level::Level;
+use crate::stage::LevelStage;
+use crate::stack::Four;
+use crate::usage::Usage;
+use cell_key::NoMemory;
+use iter_config::Config;
+use iter_contract::SortedSource;
+use std::alloc::Global;
+
+/// What deletes leave of a leaf, which may have been sought or not.
+#[tactic(auto, unfolding(crate::specs::Levels::level_cells, crate::specs::Levels::level_rest, crate::specs::Levels::level_steady, crate::specs::Levels::level_valid))]
+pub(crate) fn bottom<S: SortedSource>(
+    alloc: Global,
+    usage: Usage,
+    leaf: S,
+) -> Result<Level<S>, NoMemory>
+    requires { S.valid leaf }
+    ensures { IfOk result (λ it. IsCopy (bottom_cells usage (S.cells leaf)) (S.steady leaf)
+        (level_cells S.cells it) (level_rest S.rest it) (level_steady S.steady it)
+        (level_valid S.cells S.rest S.valid it)) }
+{
+    let stage = LevelStage::bottom(alloc, usage)?;
+    Level::over(alloc, leaf, stage)
+}
+
+/// The stage of the iterator at place `i`, if there is one and it runs.
+fn stage_at(
+    alloc: Global,
+    config: &Config,
+    usage: Usage,
+    i: usize,
+) -> Result<LevelStage, NoMemory>
+    ensures { IfOk result (IsFresh (made_at usage (slice_get config.now i)) (steady_at usage (slice_get config.now i))
+        (TakesAt usage (slice_get config.now i))) }
+{
+    if i < config.count() {
+        let spec = config.iterator(i);
+        if usage.runs(spec) {
+            return LevelStage::of(alloc, &spec.kind);
+        }
+    }
+    Ok(LevelStage::Same)
+}
+
+/// The iterator at place `i` over a source that was not sought.
+#[tactic(auto, unfolding(crate::specs::Levels::level_cells, crate::specs::Levels::level_rest, crate::specs::Levels::level_steady, crate::specs::Levels::level_valid))]
+fn level_at<S: SortedSource>(
+    alloc: Global,
+    config: &Config,
+    usage: Usage,
+    i: usize,
+    source: S,
+) -> Result<Level<S>, NoMemory>
+    requires unsought { S.rest source ≡ [] }
+    requires valid { S.valid source }
+    requires takes { TakesAt usage (slice_get config.now i) (S.cells source) }
+    ensures { IfOk result (λ it. IsCopy
+        (made_at usage (slice_get config.now i) (S.cells source))
+        (steady_at usage (slice_get config.now i) (S.steady source))
+        (level_cells S.cells it) (level_rest S.rest it) (level_steady S.steady it)
+        (level_valid S.cells S.rest S.valid it)) }
+{
+    let stage = stage_at(alloc, config, usage, i)?;
+    Level::over(alloc, source, stage)
+}
+
+/// The iterator at place `i` and the three behind it over a source that was not sought.
+pub(crate) fn four_over<S: SortedSource>(
+    alloc: Global,
+    config: &Config,
+    usage: Usage,
+    i: usize,
+    source: S,
+) -> Result<Four<S>, NoMemory>
+    requires few { i ≤ 12 }
+    requires unsought { S.rest source ≡ [] }
+    requires valid { S.valid source }
+    requires take { FourTake usage config.now i (S.cells source) }
+    ensures { IfOk result (λ it. IsCopy
+        (four_made usage config.now i (S.cells source))
+        (steady_by_four usage config.now i (S.steady source))
+        (four_cells S.cells it) (four_rest S.rest it) (four_steady S.steady it)
+        (four_valid S.cells S.rest S.valid it)) }
+{
+    let one = level_at(alloc, config, usage, i, source)?;
+    let two = level_at(alloc, config, usage, i + 1, one)?;
+    let three = level_at(alloc, config, usage, i + 2, two)?;
+    level_at(alloc, config, usage, i + 3, three)
+}

@@ -1,0 +1,48 @@
+#![tactic(auto, unfolding(crate::specs::Stacks::stack_cells, crate::specs::Stacks::stack_rest, crate::specs::Stacks::stack_steady, crate::specs::Stacks::stack_valid))]
+use crate::level::Level;
+use cell_key::{EntryRef, NoMemory, Range};
+use iter_contract::SortedSource;
+use std::alloc::Global;
+
+/// Four levels, one over another.
+pub type Four<S> = Level<Level<Level<Level<S>>>>;
+
+/// The iterators of a configuration over a leaf, one over another. The undermost level drops what deletes hide; a level
+/// that no iterator needs shows the one under it as it is.
+#[derive(Drop)]
+pub struct Stack<S> {
+    pub(crate) levels: Four<Four<Four<Four<Level<S>>>>>,
+}
+
+impl<S: SortedSource> SortedSource for Stack<S> {
+    ghost use Rattle.iter_stack.specs.Stacks.{stack_cells, stack_rest, stack_steady, stack_valid, stack_sorted, stack_bounded};
+
+    ghost cells = { stack_cells S.cells };
+
+    ghost rest = { stack_rest S.rest };
+
+    ghost steady = { stack_steady S.steady };
+
+    ghost valid = { stack_valid S.cells S.rest S.valid };
+
+    ghost sorted = { stack_sorted S.cells S.sorted };
+
+    ghost bounded = { stack_bounded S.cells S.bounded };
+
+    fn seek(&mut self, range: &Range<'_>) -> Result<(), NoMemory> {
+        self.levels.seek(range)
+    }
+
+    fn top(&self) -> Option<EntryRef<'_>> {
+        self.levels.top()
+    }
+
+    fn next(&mut self) -> Result<(), NoMemory> {
+        self.levels.next()
+    }
+
+    fn deep_copy(&self, alloc: Global) -> Result<Stack<S>, NoMemory> {
+        let levels = self.levels.deep_copy(alloc)?;
+        Ok(Stack { levels })
+    }
+}

@@ -1,0 +1,150 @@
+// The image that `pack` writes.
+ghost use Rattle.std.specs.Prelude.{◌≡◌, ◌++◌, [], map, IfOk, OnOk};
+ghost use Rattle.std.specs.List.{AllByRecursion, list_any};
+ghost use Rattle.tablet_model.specs.Ingest.{IsHistory};
+ghost use Rattle.tablet_model.specs.Order.{above};
+ghost use Rattle.tablet_model.specs.Reading.{AreUnmarkedRead};
+ghost use Rattle.tablet_model.specs.Sorted.{Ascends};
+ghost use Rattle.cell_key.specs.Mutations.{row_change_of};
+ghost use Rattle.iter_config.specs.Order.{IsConfig};
+ghost use Rattle.iter_config.specs.RulesOf.{rules_of};
+ghost use Rattle.iter_config.specs.Stages.{stages_of};
+ghost use Rattle.iter_stack.specs.Usages.{usage_cells};
+ghost use Rattle.script_text.specs.Grammar.{line_of};
+ghost use Rattle.script_text.specs.Lines.{lines_of};
+ghost use Rattle.sorted_file.specs.Image.{image_of};
+ghost use Rattle.tablet_cli.specs.Packing.{HasShortValue, history_behind, is_minor_alone, packed};
+ghost use Rattle.tablet_cli.specs.Replay.{history_after};
+
+use crate::history::History;
+use crate::scan::source_over;
+use crate::showing::ALL_KEYS;
+use cell_key::{ByteText, NoMemory};
+use delete_iter::LiveIter;
+use iter_config::{Config, IterSpec};
+use iter_contract::SortedSource;
+use iter_stack::{Usage, build};
+use script_text::{Line, LineError, Lines, parse_line};
+use sorted_file::{FileBuilder, SortedFile};
+use std::alloc::Global;
+
+/// The image of what the iterators of compactions make of the mutations of a script.
+pub fn image_of_script(alloc: Global, config: &Config, script: &[u8]) -> Result<ByteText, NoMemory>
+    ensures { IfOk result (λ text. text ≡ image_of (packed config.now (history_behind config.now [] (lines_of script.now)))) }
+{
+    let history = history_of(alloc, config, script)?;
+    let file = packed(alloc, config, &history)?;
+    ByteText::of(alloc, file.bytes())
+}
+
+/// The mutations of a script that come in.
+fn history_of(alloc: Global, config: &Config, script: &[u8]) -> Result<History, NoMemory>
+    ensures history { IfOk result (λ history. history ≡ history_behind config.now [] (lines_of script.now)) }
+    ensures lawful { IfOk result (λ history. IsHistory (rules_of config.now) (map row_change_of history)) }
+{
+    let mut history = History::new(alloc);
+    for line in Lines::new(script) {
+        take_line(alloc, config, &mut history, line)?;
+    }
+    Ok(history)
+}
+
+/// Takes the mutation of a line in, if it is one that comes in.
+#[tactic(auto, unfolding(crate::specs::Replay::history_after))]
+fn take_line(
+    alloc: Global,
+    config: &Config,
+    history: &mut History,
+    line: &[u8],
+) -> Result<(), NoMemory>
+    requires { IsHistory (rules_of config.now) (map row_change_of history.old) }
+    ensures history { OnOk result (history.new ≡ history_after config.now history.old (line_of line.now)) }
+    ensures lawful { OnOk result (IsHistory (rules_of config.now) (map row_change_of history.new)) }
+{
+    match parse_line(alloc, line) {
+        Err(LineError::NoMemory) => Err(NoMemory),
+        Ok(Line::Mutate(mutation)) => {
+            history.apply(config, mutation)?;
+            Ok(())
+        }
+        _ => Ok(()),
+    }
+}
+
+/// Whether an iterator runs in minor compactions and not in major ones.
+fn is_minor_alone(spec: &IterSpec) -> bool
+    ensures { result ≡ is_minor_alone spec.now }
+{
+    spec.scopes.minc && !spec.scopes.majc
+}
+
+/// Whether there is such an iterator.
+fn has_minor_alone(config: &Config) -> bool
+    ensures any { result ≡ list_any is_minor_alone config.now }
+    ensures rules { IsConfig config.now }
+{
+    for i in 0..config.count() {
+        if is_minor_alone(config.iterator(i)) {
+            return true;
+        }
+    }
+    false
+}
+
+/// The file of what the iterators of compactions make of a history's live entries. These are the iterators of minor compactions or
+/// those of major ones, whichever are more.
+fn packed(alloc: Global, config: &Config, history: &History) -> Result<SortedFile, NoMemory>
+    requires { IsHistory (rules_of config.now) (map row_change_of history.now) }
+    ensures { IfOk result (λ file. file ≡ packed config.now history.now) }
+{
+    let entries = history.entries(alloc)?;
+    let source = source_over(alloc, entries)?;
+    if has_minor_alone(config) {
+        let live = LiveIter::new(alloc, source)?;
+        return compacted(alloc, config, Usage::Minc, live);
+    }
+    compacted(alloc, config, Usage::MajcFull, source)
+}
+
+/// The file that a compaction makes of a source.
+fn compacted<S: SortedSource>(
+    alloc: Global,
+    config: &Config,
+    usage: Usage,
+    source: S,
+) -> Result<SortedFile, NoMemory>
+    requires valid { S.valid source }
+    requires read { AreUnmarkedRead (stages_of config.now) (S.cells source) }
+    requires short { AllByRecursion HasShortValue (usage_cells config.now usage (S.cells source)) }
+    ensures { IfOk result (λ file. file ≡ usage_cells config.now usage (S.cells source)) }
+{
+    let stack = build(alloc, config, usage, source)?;
+    file_of(alloc, stack)
+}
+
+/// A file of all entries of a source.
+fn file_of<S: SortedSource>(alloc: Global, source: S) -> Result<SortedFile, NoMemory>
+    requires valid { S.valid source }
+    requires short { AllByRecursion HasShortValue (S.cells source) }
+    ensures { IfOk result (λ file. file ≡ S.cells source) }
+{
+    let mut source = source;
+    let mut builder = FileBuilder::new(alloc)?;
+    source.seek(&ALL_KEYS)?;
+    push_rest(&mut source, &mut builder)?;
+    builder.finish()
+}
+
+/// Puts the entries that a source has left at the end of a file.
+fn push_rest<S: SortedSource>(source: &mut S, builder: &mut FileBuilder) -> Result<(), NoMemory>
+    requires valid { S.valid source.old }
+    requires order { Ascends above (builder.old ++ S.rest source.old) }
+    requires short { AllByRecursion HasShortValue (S.rest source.old) }
+    ensures { OnOk result (builder.new ≡ builder.old ++ S.rest source.old) }
+{
+    while let Some(entry) = source.top() {
+        builder.push(entry)?;
+        source.next()?;
+    }
+    Ok(())
+}
