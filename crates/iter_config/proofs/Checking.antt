@@ -1,28 +1,25 @@
 -- The checks of mutations under the rules of a configuration.
 use Rattle.std.proofs.Common.{◌≡◌, ℕ, ℤ, Bool, true, false, not, ◌&&◌, ◌||◌, cond, List, [], ◌∷◌, Option, Some, None, is_some, unwrap_or, refl, sym, ap, ◌∙◌}
+use Rattle.std.proofs.Math.Bool.{and_assoc, not-not}
 use Rattle.std.specs.Prelude.{pos, filter}
 use Rattle.tablet_model.specs.Cell.{Cell}
 use Rattle.tablet_model.specs.History.{Change, RowChange, entry_of, is_delete}
 use Rattle.tablet_model.specs.Ingest.{is_mistimed, is_read, is_refused_delete, is_unread}
-use Rattle.tablet_model.specs.Stages.{Stage, by_cell, by_column}
+use Rattle.tablet_model.specs.Stages.{Stage}
 use Rattle.cell_key.specs.Listed.{column_listed}
 use Rattle.iter_config.specs.Columns.{kind_reads, reads_value, refuses_delete}
-use Rattle.iter_config.specs.Predicates.{filter_stage, is_of_column, keeps}
 use Rattle.iter_config.specs.Rules.{in_base, is_combiner}
 use Rattle.iter_config.specs.RulesOf.{rules_of, scans_alone}
 use Rattle.iter_config.specs.Stages.{stage_of, stages_of}
 use Rattle.iter_config.specs.declared.iter_spec.IterSpec.{IterSpec}
 use Rattle.iter_config.specs.declared.iter_spec.Kind.{Kind}
 use Rattle.iter_config.specs.declared.iter_spec.Kind.TheVariants.{Filter, Versions, Combine}
-
-not_not : (b : Bool) → not (not b) ≡ b
-not_not true = refl
-not_not false = refl
+use Rattle.iter_config.proofs.FilterStages.{filter_is}
 
 pub refused_delete : (specs : List IterSpec) (k : ℕ) (m : RowChange) (u : Change)
     → is_refused_delete (rules_of specs) k m u ≡ (is_delete u.value && refuses_delete specs u.family u.qualifier)
 unfolding is_refused_delete rules_of
-refused_delete specs k m u = ap (λ b. is_delete u.value && b) (not_not (refuses_delete specs u.family u.qualifier))
+refused_delete specs k m u = ap (λ b. is_delete u.value && b) (not-not (refuses_delete specs u.family u.qualifier))
 
 untimed : (time : Option ℤ) (value : Option (List ℕ)) → time ≡ None → (is_some time && (is_delete value || true) || not (is_some time) && (is_some value && false)) ≡ false
 untimed None None h = refl
@@ -35,12 +32,8 @@ mistimed specs k m u none = untimed u.time u.value none
 
 -- a stage in front reads what its iterator reads: a combiner the values of its columns, any other one all
 front_reads : (e : Cell) (kind : Kind) (ss : List Stage) → is_read (stage_of kind ∷ ss) e ≡ (kind_reads e.key.family e.key.qualifier e.value kind && is_read ss e)
-unfolding is_read filter_stage column_listed
-front_reads e (Filter predicate negate) ss = go (is_of_column predicate)
-  where
-    go : (b : Bool) → is_read (cond b (by_column (keeps predicate negate)) (by_cell (keeps predicate negate)) ∷ ss) e ≡ is_read ss e
-    go true = refl
-    go false = refl
+unfolding is_read column_listed
+front_reads e (Filter predicate negate) ss = filter_is (λ s. is_read (s ∷ ss) e ≡ is_read ss e) predicate negate (λ k. refl) (λ k. refl)
 front_reads e (Versions max) ss = refl
 front_reads e (Combine op columns encoding deletes) ss = refl
 
@@ -48,10 +41,6 @@ others_read : (family qualifier value : List ℕ) (kind : Kind) → is_combiner 
 others_read family qualifier value (Filter predicate negate) h = refl
 others_read family qualifier value (Versions max) h = refl
 others_read family qualifier value (Combine op columns encoding deletes) h = absurd (let k : true ≡ false = h in cc)
-
-and_assoc : (a b c : Bool) → ((a && b) && c) ≡ (a && (b && c))
-and_assoc true b c = refl
-and_assoc false b c = refl
 
 and_swap : (a b c : Bool) → (a && (b && c)) ≡ (b && (a && c))
 and_swap true true c = refl

@@ -1,11 +1,8 @@
 -- The stages of a configuration's compactions are accepted.
-use Rattle.std.proofs.Common.{◌≡◌, ℕ, ◌≤◌, Bool, true, false, not, ◌&&◌, ◌||◌, cond, List, [], ◌∷◌, Option, Some, None, refl, sym, ap, ◌∙◌, arith}
-use Rattle.std.proofs.lemmas.Cmp.{nat_list_eq_equiv}
+use Rattle.std.proofs.Common.{◌≡◌, ◌≤◌, Bool, true, false, not, ◌&&◌, ◌||◌, cond, List, [], ◌∷◌, Some, refl, sym, ap, ◌∙◌, arith}
 use Rattle.std.specs.Prelude.{filter, ⊤}
 use Rattle.std.specs.List.{AllByRecursion, IsDistinct, list_any}
-use Rattle.std.specs.Str.{bytes_eq}
-use Rattle.cell_key.specs.Listed.{column_listed, has_qualifier, is_listed, is_named, listed_of_columns}
-use Rattle.cell_key.specs.declared.column_name.ColumnName.{ColumnName}
+use Rattle.cell_key.specs.Listed.{column_listed, listed_of_columns}
 use Rattle.number_values.proofs.ArrayLaws.{values_lawful, values_short}
 use Rattle.tablet_model.proofs.OneColumn.{columns_tie}
 use Rattle.tablet_model.proofs.Orders.{exact_columns}
@@ -19,7 +16,7 @@ use Rattle.tablet_model.specs.Stages.{Stage, by_cell, by_column, combine, newest
 use Rattle.iter_config.specs.Limits.{IsLimited}
 use Rattle.iter_config.specs.Order.{NoneClashes}
 use Rattle.iter_config.specs.Predicates.{filter_stage, is_from, is_of_column, is_up_to, keeps}
-use Rattle.iter_config.specs.Rules.{in_base, is_combiner, is_disordered, listed_columns, names_meet, out_of_order, qualifiers_meet, shares_column}
+use Rattle.iter_config.specs.Rules.{in_base, is_combiner, is_disordered, listed_columns, names_meet, out_of_order, shares_column}
 use Rattle.iter_config.specs.RulesOf.{scans_alone}
 use Rattle.iter_config.specs.Stages.{stage_of, stages_of}
 use Rattle.iter_config.specs.declared.iter_spec.IterSpec.{IterSpec}
@@ -27,7 +24,10 @@ use Rattle.iter_config.specs.declared.iter_spec.Kind.{Kind}
 use Rattle.iter_config.specs.declared.iter_spec.Kind.TheVariants.{Filter, Versions, Combine}
 use Rattle.iter_config.specs.declared.predicate.Predicate.{Predicate}
 use Rattle.iter_config.specs.declared.predicate.Predicate.TheVariants.{Family, QualifierSlice, VisibilitySet, Grep, Times}
-use Rattle.iter_config.proofs.Prefixes.{behind_false, filter_none, is_behind, map_all}
+use Rattle.iter_config.proofs.FilterStages.{filter_is}
+use Rattle.iter_config.proofs.Meeting.{apart_columns}
+use Rattle.iter_config.proofs.Truths.{behind_false, both_false, not_false, true_false}
+use Rattle.iter_config.proofs.Prefixes.{filter_none, is_behind, map_all}
 
 pub one_column : (c e : Cell) → same_column c e ≡ true → column_of e.key ≡ column_of c.key
 one_column c e h = sym (exact_columns (column_of c.key) (column_of e.key) (columns_tie c e h))
@@ -45,12 +45,7 @@ keeps_of_columns (Times from to) negate h c e same = absurd (let k : false ≡ t
 
 -- each stage is what it says
 pub well_made : (kind : Kind) → IsLimited kind → IsWellMade (stage_of kind)
-unfolding filter_stage
-well_made (Filter p negate) h = go (is_of_column p) refl
-  where
-    go : (b : Bool) → is_of_column p ≡ b → IsWellMade (cond b (by_column (keeps p negate)) (by_cell (keeps p negate)))
-    go true e = keeps_of_columns p negate e
-    go false e = tt
+well_made (Filter p negate) h = filter_is IsWellMade p negate (keeps_of_columns p negate) (λ e. tt)
 well_made (Versions max) h = let low : 1 ≤ max = h.0 in omega (arith, low)
 well_made (Combine op columns encoding deletes) h = (listed_of_columns columns, values_lawful op encoding)
 
@@ -67,102 +62,25 @@ may_follow (by_cell p) ss h = h
 may_follow (newest n) ss h = h
 may_follow (combine listed r full) ss h = h
 
-pub both_false : (a b : Bool) → (a || b) ≡ false → (a ≡ false) × (b ≡ false)
-both_false true b h = absurd (let k : true ≡ false = h in cc)
-both_false false b h = (refl, h)
-
-not_false : (b : Bool) → not b ≡ false → b ≡ true
-not_false true h = refl
-not_false false h = absurd (let k : true ≡ false = h in cc)
-
-both_true : (a b : Bool) → (a && b) ≡ true → (a ≡ true) × (b ≡ true)
-both_true true b h = (refl, h)
-both_true false b h = absurd (let k : false ≡ true = h in cc)
-
-and_true : (a b : Bool) → a ≡ true → b ≡ true → (a && b) ≡ true
-and_true true b h k = k
-and_true false b h k = h
-
--- two names of one column meet
-bytes_meet : (p r q : List ℕ) → bytes_eq p q ≡ true → bytes_eq r q ≡ true → bytes_eq p r ≡ true
-bytes_meet p r q h k = nat_list_eq_equiv.congr p q r h ∙ nat_list_eq_equiv.symm q r ∙ k
-
-parts_meet : (p r : Option (List ℕ)) (q : List ℕ) → has_qualifier p q ≡ true → has_qualifier r q ≡ true → qualifiers_meet p r ≡ true
-parts_meet None r q h k = refl
-parts_meet (Some p) None q h k = refl
-parts_meet (Some p) (Some r) q h k = bytes_meet p r q h k
-
-meet : (n m : ColumnName) (family qualifier : List ℕ) → is_named family qualifier n ≡ true → is_named family qualifier m ≡ true → names_meet n m ≡ true
-meet n m family qualifier h k =
-    let (q, f) = both_true (has_qualifier n.qualifier qualifier) (bytes_eq n.family family) h in
-    let (r, g) = both_true (has_qualifier m.qualifier qualifier) (bytes_eq m.family family) k in
-    and_true (bytes_eq n.family m.family) (qualifiers_meet n.qualifier m.qualifier) (bytes_meet n.family m.family family f g) (parts_meet n.qualifier m.qualifier qualifier q r)
-
-unnamed : (n m : ColumnName) (family qualifier : List ℕ) → is_named family qualifier n ≡ true → names_meet n m ≡ false → is_named family qualifier m ≡ false
-unnamed n m family qualifier h k = go (is_named family qualifier m) refl
-  where
-    go : (b : Bool) → is_named family qualifier m ≡ b → b ≡ false
-    go true e = absurd (let t : true ≡ false = sym (meet n m family qualifier h e) ∙ k in cc)
-    go false e = refl
-
-unlisted : (n : ColumnName) (ms : List ColumnName) (family qualifier : List ℕ) → is_named family qualifier n ≡ true → list_any (names_meet n) ms ≡ false → is_listed ms family qualifier ≡ false
-unlisted n [] family qualifier h k = refl
-unlisted n (m ∷ ms) family qualifier h k =
-    let (here, later) = both_false (names_meet n m) (list_any (names_meet n) ms) k in
-    ap (λ b. b || is_listed ms family qualifier) (unnamed n m family qualifier h here) ∙ unlisted n ms family qualifier h later
-
--- lists without a column in common
-pub apart_columns : (ns ms : List ColumnName) (family qualifier : List ℕ) → list_any (λ n. list_any (names_meet n) ms) ns ≡ false → is_listed ns family qualifier ≡ true
-    → is_listed ms family qualifier ≡ false
-apart_columns [] ms family qualifier k h = absurd (let t : false ≡ true = h in cc)
-apart_columns (n ∷ ns) ms family qualifier k h = go (is_named family qualifier n) refl h (apart_columns ns ms family qualifier parts.1)
-  where
-    parts : (list_any (names_meet n) ms ≡ false) × (list_any (λ n. list_any (names_meet n) ms) ns ≡ false)
-    parts = both_false (list_any (names_meet n) ms) (list_any (λ n. list_any (names_meet n) ms) ns) k
-
-    go : (b : Bool) → is_named family qualifier n ≡ b → (b || is_listed ns family qualifier) ≡ true → (is_listed ns family qualifier ≡ true → is_listed ms family qualifier ≡ false) → is_listed ms family qualifier ≡ false
-    go true e t later = unlisted n ms family qualifier e parts.0
-    go false e t later = later t
-
 -- two kinds of iterators combine no column both
 abbrev pub AreApart : Kind → Kind → Type 0
 AreApart k l = list_any (λ n. list_any (names_meet n) (listed_columns l)) (listed_columns k) ≡ false
 
-filter_allows : (p : Predicate) (negate : Bool) (t : Stage) → (is_of_column p ≡ false → IsNoCombiner t) → AllowsBehind (filter_stage p negate) t
-unfolding filter_stage
-filter_allows p negate t h = go (is_of_column p) refl
-  where
-    go : (b : Bool) → is_of_column p ≡ b → AllowsBehind (cond b (by_column (keeps p negate)) (by_cell (keeps p negate))) t
-    go true e = tt
-    go false e = h e
-
-filter_no_combiner : (p : Predicate) (negate : Bool) → IsNoCombiner (filter_stage p negate)
-unfolding filter_stage
-filter_no_combiner p negate = go (is_of_column p)
-  where
-    go : (b : Bool) → IsNoCombiner (cond b (by_column (keeps p negate)) (by_cell (keeps p negate)))
-    go true = tt
-    go false = tt
-
-column_filter : (p : Predicate) (negate : Bool) → is_of_column p ≡ true → IsColumnFilter (filter_stage p negate)
-unfolding filter_stage
-column_filter p negate h = rw h tt
-
-filter_beside : (listed : Cell → Bool) (p : Predicate) (negate : Bool) → is_of_column p ≡ true → IsBeside listed (filter_stage p negate)
-unfolding filter_stage
-filter_beside listed p negate h = rw h tt
-
 -- what is in order may follow
 allows : (k l : Kind) → is_disordered k l ≡ false → AreApart k l → AllowsBehind (stage_of k) (stage_of l)
 unfolding column_listed
-allows (Filter p negate) (Filter q opposite) h apart = filter_allows p negate (filter_stage q opposite) (λ e. filter_no_combiner q opposite)
-allows (Filter p negate) (Versions max) h apart = filter_allows p negate (newest max) (λ e. tt)
+allows (Filter p negate) (Filter q opposite) h apart =
+    filter_is (λ s. AllowsBehind s (filter_stage q opposite)) p negate (λ e. tt) (λ e. filter_is IsNoCombiner q opposite (λ d. tt) (λ d. tt))
+allows (Filter p negate) (Versions max) h apart = filter_is (λ s. AllowsBehind s (newest max)) p negate (λ e. tt) (λ e. tt)
 allows (Filter p negate) (Combine op columns encoding deletes) h apart =
-    filter_allows p negate (stage_of (Combine op columns encoding deletes)) (λ e. absurd (let t : true ≡ false = rw e at h in cc))
-allows (Versions n) (Filter q opposite) h apart = column_filter q opposite (not_false (is_of_column q) (both_false (not (is_of_column q)) false (both_false (not (is_of_column q) || false) false h).0).0)
+    filter_is (λ s. AllowsBehind s (stage_of (Combine op columns encoding deletes))) p negate (λ e. tt) (λ e. absurd (let t : true ≡ false = rw e at h in cc))
+allows (Versions n) (Filter q opposite) h apart =
+    let tests : not (is_of_column q) ≡ false = (both_false (not (is_of_column q)) false (both_false (not (is_of_column q) || false) false h).0).0 in
+    filter_is IsColumnFilter q opposite (λ e. tt) (λ e. true_false (is_of_column q) (not_false (is_of_column q) tests) e)
 allows (Versions n) (Versions max) h apart = absurd (let t : true ≡ false = h in cc)
 allows (Versions n) (Combine op columns encoding deletes) h apart = absurd (let t : true ≡ false = h in cc)
-allows (Combine op columns encoding deletes) (Filter q opposite) h apart = filter_beside (column_listed columns) q opposite (not_false (is_of_column q) h)
+allows (Combine op columns encoding deletes) (Filter q opposite) h apart =
+    filter_is (IsBeside (column_listed columns)) q opposite (λ e. tt) (λ e. true_false (is_of_column q) (not_false (is_of_column q) h) e)
 allows (Combine op columns encoding deletes) (Versions max) h apart = tt
 allows (Combine op columns encoding deletes) (Combine o others e d) h apart = λ (c : Cell) k. apart_columns columns others c.key.family c.key.qualifier apart k
 
@@ -194,12 +112,7 @@ base_accepted (s ∷ ss) limits order apart = go (in_base s) (base_accepted ss l
     go false later = later
 
 is_short : (kind : Kind) → IsShort (stage_of kind)
-unfolding filter_stage
-is_short (Filter p negate) = go (is_of_column p)
-  where
-    go : (b : Bool) → IsShort (cond b (by_column (keeps p negate)) (by_cell (keeps p negate)))
-    go true = tt
-    go false = tt
+is_short (Filter p negate) = filter_is IsShort p negate (λ e. tt) (λ e. tt)
 is_short (Versions max) = tt
 is_short (Combine op columns encoding deletes) = values_short op encoding
 
@@ -209,18 +122,11 @@ all_short [] = tt
 all_short (s ∷ ss) = (is_short s.kind, all_short ss)
 
 apart_from : (k l : Kind) → AreApart k l → IsApartFrom (stage_of k) (stage_of l)
-unfolding filter_stage column_listed
-apart_from (Filter p negate) l h = go (is_of_column p)
-  where
-    go : (b : Bool) → IsApartFrom (cond b (by_column (keeps p negate)) (by_cell (keeps p negate))) (stage_of l)
-    go true = tt
-    go false = tt
+unfolding column_listed
+apart_from (Filter p negate) l h = filter_is (λ s. IsApartFrom s (stage_of l)) p negate (λ e. tt) (λ e. tt)
 apart_from (Versions max) l h = tt
-apart_from (Combine op columns encoding deletes) (Filter q opposite) h = go (is_of_column q)
-  where
-    go : (b : Bool) → IsApartFrom (stage_of (Combine op columns encoding deletes)) (cond b (by_column (keeps q opposite)) (by_cell (keeps q opposite)))
-    go true = tt
-    go false = tt
+apart_from (Combine op columns encoding deletes) (Filter q opposite) h =
+    filter_is (IsApartFrom (stage_of (Combine op columns encoding deletes))) q opposite (λ e. tt) (λ e. tt)
 apart_from (Combine op columns encoding deletes) (Versions max) h = tt
 apart_from (Combine op columns encoding deletes) (Combine o others e d) h = λ (c : Cell) k. apart_columns columns others c.key.family c.key.qualifier h k
 

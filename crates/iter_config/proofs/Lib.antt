@@ -1,8 +1,11 @@
+pub mod Truths
 pub mod Views
 pub mod Ordering
 pub mod Repeats
+pub mod FilterStages
 pub mod Checking
 pub mod Prefixes
+pub mod Meeting
 pub mod Following
 pub mod Soundness
 pub mod OnLiterals

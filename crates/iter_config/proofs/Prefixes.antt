@@ -12,11 +12,7 @@ use Rattle.iter_config.specs.Rules.{in_base, leaves_gap}
 use Rattle.iter_config.specs.RulesOf.{rules_of, scans_alone}
 use Rattle.iter_config.specs.Stages.{stage_of, stages_of}
 use Rattle.iter_config.specs.declared.iter_spec.IterSpec.{IterSpec}
-
-pub behind_false : (a b : Bool) → a ≡ false → (b && not a) ≡ false → b ≡ false
-behind_false true b e h = absurd (let k : true ≡ false = e in cc)
-behind_false false true e h = h
-behind_false false false e h = refl
+use Rattle.iter_config.proofs.Truths.{behind_false}
 
 unpassed : (q b : Bool) → b ≡ false → (q && not b) ≡ q
 unpassed true true h = absurd (let k : true ≡ false = h in cc)
@@ -24,6 +20,7 @@ unpassed true false h = refl
 unpassed false b h = refl
 
 module _ {X : Type 0} where
+  -- what follows of each element
   pub map_all : (P Q : X → Type 0) → ((x : X) → P x → Q x) → (xs : List X) → AllByRecursion P xs → AllByRecursion Q xs
   map_all P Q f [] h = tt
   map_all P Q f (x ∷ xs) h = (f x h.0, map_all P Q f xs h.1)
@@ -34,10 +31,12 @@ module _ {X : Type 0} where
   map_distinct c d f [] h = tt
   map_distinct c d f (x ∷ xs) h = (map_all (λ y. c x y ≡ false) (λ y. d x y ≡ false) (f x) xs h.0, map_distinct c d f xs h.1)
 
+  -- a test that nothing passes
   pub filter_none : (p : X → Bool) (xs : List X) → AllByRecursion (λ x. p x ≡ false) xs → filter p xs ≡ []
   filter_none p [] h = refl
   filter_none p (x ∷ xs) h = rw h.0 (filter_none p xs h.1)
 
+  -- two tests that tell the same elements
   pub filter_same : (p q : X → Bool) (xs : List X) → AllByRecursion (λ x. p x ≡ q x) xs → filter p xs ≡ filter q xs
   filter_same p q [] h = refl
   filter_same p q (x ∷ xs) h = rw h.0 (ap (λ l. cond (q x) (x ∷ l) l) (filter_same p q xs h.1))

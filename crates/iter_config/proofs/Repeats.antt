@@ -1,11 +1,12 @@
 -- Iterators that break a rule with one before them.
-use Rattle.std.proofs.Common.{◌≡◌, ℕ, ◌+◌, ◌<◌, Bool, true, false, ◌||◌, cond, List, [], ◌∷◌, ◌++◌, length, take, drop, get_or, Option, Some, None, refl, sym, ap, ◌∙◌}
+use Rattle.std.proofs.Common.{◌≡◌, ℕ, ◌+◌, ◌<◌, Bool, true, false, not, ◌&&◌, ◌||◌, cond, List, [], ◌∷◌, ◌++◌, length, take, drop, get_or, Option, Some, None, refl, sym, ap, ◌∙◌, arith}
 use Rattle.std.specs.List.{All, AllByRecursion, IsDistinct, list_any}
 use Rattle.std.proofs.lemmas.List.{at_drop_more, take_more}
 use Rattle.std.proofs.lemmas.List.Elements.{All-from_recursion}
 use Rattle.std.proofs.lemmas.List.Folds.{list_any-append}
-use Rattle.iter_config.specs.Rules.{first_clash, first_unscanned, number_by}
+use Rattle.iter_config.specs.Rules.{all_scopes, first_clash, first_gap, first_unscanned, leaves_gap, number_by, scopes_gap}
 use Rattle.iter_config.specs.declared.iter_spec.IterSpec.{IterSpec}
+use Rattle.iter_config.proofs.Truths.{both_false}
 
 module _ (number : List IterSpec → IterSpec → ℕ) (clash : IterSpec → IterSpec → Bool) where
   abbrev search_from : List IterSpec → ℕ → Option ℕ
@@ -35,17 +36,12 @@ module _ (number : List IterSpec → IterSpec → ℕ) (clash : IterSpec → Ite
   abbrev AreApart : List IterSpec → List IterSpec → Type 0
   AreApart before ss = AllByRecursion (λ s. list_any (λ t. clash t s) before ≡ false) ss
 
-  parts : (a b : Bool) → (a || b) ≡ false → (a ≡ false) × (b ≡ false)
-  parts false false h = (refl, refl)
-  parts false true h = (refl, h)
-  parts true b h = absurd (let k : true ≡ false = h in cc)
-
   split_last : (before : List IterSpec) (s : IterSpec) (ss : List IterSpec) → AreApart (before ++ s ∷ []) ss → AreApart before ss × AllByRecursion (λ r. clash s r ≡ false) ss
   split_last before s [] h = (tt, tt)
   split_last before s (r ∷ rs) h =
-      let (front, back) = parts (list_any (λ t. clash t r) before) (list_any (λ t. clash t r) (s ∷ [])) (sym (list_any-append (λ t. clash t r) before (s ∷ [])) ∙ h.0) in
+      let (front, back) = both_false (list_any (λ t. clash t r) before) (list_any (λ t. clash t r) (s ∷ [])) (sym (list_any-append (λ t. clash t r) before (s ∷ [])) ∙ h.0) in
       let rest = split_last before s rs h.1 in
-      ((front, rest.0), ((parts (clash s r) false back).0, rest.1))
+      ((front, rest.0), ((both_false (clash s r) false back).0, rest.1))
 
   apart : (before ss : List IterSpec) → first_clash number clash before ss ≡ None → AreApart before ss × IsDistinct clash ss
   unfolding IsDistinct
@@ -77,3 +73,33 @@ scans-from_first_unscanned priorities ss h = All-from_recursion (λ s. s.scopes.
             → (first_unscanned priorities ss ≡ None → AllByRecursion (λ s. s.scopes.scan ≡ true) ss) → AllByRecursion (λ s. s.scopes.scan ≡ true) (s ∷ ss)
         go true e k later = (e, later k)
         go false e k later = absurd (let m : Some (number_by priorities s) ≡ None = k in cc)
+
+gap_later : (a b c d e f : Bool) → ((c && not a) || (d && not b)) ≡ false → ((e && not c) || (f && not d)) ≡ false → ((e && not a) || (f && not b)) ≡ false
+gap_later a b c d e f h k = grind arith
+
+gaps_later : (s t : IterSpec) → leaves_gap s t ≡ false → (ss : List IterSpec) → AllByRecursion (λ u. leaves_gap t u ≡ false) ss → AllByRecursion (λ u. leaves_gap s u ≡ false) ss
+gaps_later s t h [] k = tt
+gaps_later s t h (u ∷ us) k = (gap_later s.scopes.minc s.scopes.majc t.scopes.minc t.scopes.majc u.scopes.minc u.scopes.majc h k.0, gaps_later s t h us k.1)
+
+gaps : (priorities : List ℕ) (s : IterSpec) (ss : List IterSpec) → first_gap priorities s.scopes ss ≡ None → AllByRecursion (λ t. leaves_gap s t ≡ false) ss × IsDistinct leaves_gap ss
+unfolding IsDistinct
+gaps priorities s [] h = (tt, tt)
+gaps priorities s (t ∷ ts) h = go (leaves_gap s t) refl h (gaps priorities t ts)
+  where
+    go : (b : Bool) → leaves_gap s t ≡ b → cond b (Some (number_by priorities t)) (first_gap priorities t.scopes ts) ≡ None
+        → (first_gap priorities t.scopes ts ≡ None → AllByRecursion (λ u. leaves_gap t u ≡ false) ts × IsDistinct leaves_gap ts)
+        → AllByRecursion (λ u. leaves_gap s u ≡ false) (t ∷ ts) × IsDistinct leaves_gap (t ∷ ts)
+    go true e k later = absurd (let m : Some (number_by priorities t) ≡ None = k in cc)
+    go false e k later =
+        let (behind, distinct) = later k in
+        ((e, gaps_later s t e ts behind), (behind, distinct))
+
+-- where none leaves a gap behind the one just before it, none leaves one behind any before it
+pub prefixes-from_first_gap : (priorities : List ℕ) (ss : List IterSpec) → first_gap priorities all_scopes ss ≡ None → IsDistinct leaves_gap ss
+unfolding IsDistinct
+prefixes-from_first_gap priorities [] h = tt
+prefixes-from_first_gap priorities (s ∷ ss) h = go (scopes_gap all_scopes s.scopes) h
+  where
+    go : (b : Bool) → cond b (Some (number_by priorities s)) (first_gap priorities s.scopes ss) ≡ None → IsDistinct leaves_gap (s ∷ ss)
+    go true k = absurd (let m : Some (number_by priorities s) ≡ None = k in cc)
+    go false k = gaps priorities s ss k

@@ -7,18 +7,18 @@ use Rattle.cell_key.specs.Listed.{column_listed, is_listed}
 use Rattle.tablet_model.specs.Accepted.{IsDeletable, IsNotNewest, is_full}
 use Rattle.tablet_model.specs.Cell.{Cell, Column}
 use Rattle.tablet_model.specs.Rules.{AreSound}
-use Rattle.tablet_model.specs.Stages.{by_cell, by_column}
 use Rattle.iter_config.specs.Columns.{kind_refuses, refuses_delete}
 use Rattle.iter_config.specs.Limits.{IsLimited}
 use Rattle.iter_config.specs.Order.{IsConfig, NoneClashes}
-use Rattle.iter_config.specs.Predicates.{filter_stage, is_of_column, keeps}
 use Rattle.iter_config.specs.Rules.{in_base, is_cell_filter, is_combiner, is_full_combiner, is_full_under_versions, is_versions, out_of_order}
 use Rattle.iter_config.specs.RulesOf.{rules_of}
 use Rattle.iter_config.specs.Stages.{stage_of, stages_of}
 use Rattle.iter_config.specs.declared.iter_spec.IterSpec.{IterSpec}
 use Rattle.iter_config.specs.declared.iter_spec.Kind.{Kind}
 use Rattle.iter_config.specs.declared.iter_spec.Kind.TheVariants.{Filter, Versions, Combine}
-use Rattle.iter_config.proofs.Following.{all_short, base_accepted, both_false, one_column, scans_apart}
+use Rattle.iter_config.proofs.Following.{all_short, base_accepted, one_column, scans_apart}
+use Rattle.iter_config.proofs.FilterStages.{filter_is}
+use Rattle.iter_config.proofs.Truths.{both_false, not_true}
 use Rattle.iter_config.proofs.Prefixes.{base_first, majc_first, minc_first, stands_first}
 
 -- the iterators of major compactions
@@ -26,22 +26,12 @@ abbrev majors : List IterSpec → List IterSpec
 majors ss = filter (λ s. s.scopes.majc) ss
 
 full_of : (kind : Kind) → is_full (stage_of kind) ≡ is_full_combiner kind
-unfolding filter_stage
-full_of (Filter p negate) = go (is_of_column p)
-  where
-    go : (b : Bool) → is_full (cond b (by_column (keeps p negate)) (by_cell (keeps p negate))) ≡ false
-    go true = refl
-    go false = refl
+full_of (Filter p negate) = filter_is (λ s. is_full s ≡ false) p negate (λ e. refl) (λ e. refl)
 full_of (Versions max) = refl
 full_of (Combine op columns encoding deletes) = refl
 
 not_newest : (kind : Kind) → is_versions kind ≡ false → IsNotNewest (stage_of kind)
-unfolding filter_stage
-not_newest (Filter p negate) h = go (is_of_column p)
-  where
-    go : (b : Bool) → IsNotNewest (cond b (by_column (keeps p negate)) (by_cell (keeps p negate)))
-    go true = tt
-    go false = tt
+not_newest (Filter p negate) h = filter_is IsNotNewest p negate (λ e. tt) (λ e. tt)
 not_newest (Versions max) h = absurd (let k : true ≡ false = h in cc)
 not_newest (Combine op columns encoding deletes) h = tt
 
@@ -107,12 +97,8 @@ never_newest (s ∷ ss) order under h = go s.scopes.majc refl h (never_newest ss
     go false e any later = later any
 
 deletable_kind : (e : Cell) (kind : Kind) → kind_refuses e.key.family e.key.qualifier kind ≡ false → IsDeletable e (stage_of kind)
-unfolding filter_stage column_listed
-deletable_kind e (Filter p negate) h = go (is_of_column p)
-  where
-    go : (b : Bool) → IsDeletable e (cond b (by_column (keeps p negate)) (by_cell (keeps p negate)))
-    go true = tt
-    go false = tt
+unfolding column_listed
+deletable_kind e (Filter p negate) h = filter_is (IsDeletable e) p negate (λ k. tt) (λ k. tt)
 deletable_kind e (Versions max) h = tt
 deletable_kind e (Combine op columns encoding deletes) h = λ k. sym (ap (λ b. not b && is_listed columns e.key.family e.key.qualifier) k) ∙ h
 
@@ -128,10 +114,6 @@ deletable e (s ∷ ss) h = go s.scopes.majc (deletable e ss parts.1)
     go : (b : Bool) → AllByRecursion (IsDeletable e) (stages_of (majors ss)) → AllByRecursion (IsDeletable e) (stages_of (cond b (s ∷ majors ss) (majors ss)))
     go true later = (deletable_kind e s.kind parts.0, later)
     go false later = later
-
-not_true : (b : Bool) → not b ≡ true → b ≡ false
-not_true true h = absurd (let k : false ≡ true = h in cc)
-not_true false h = refl
 
 minc_in_base : (s : IterSpec) → s.scopes.minc ≡ true → in_base s ≡ true
 minc_in_base s h = ap (λ b. b || s.scopes.majc) h

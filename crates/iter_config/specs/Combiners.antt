@@ -22,19 +22,19 @@ op_of word =
     if bytes_eq word (codes "max") then Some op.Max else
     if bytes_eq word (codes "array_sum") then Some op.ArraySum else None
 
--- how its values are spelled
+-- how a combiner's values are spelled, by a word
 unfoldable pub encoding_of : List ℕ → Option Encoding
 encoding_of word =
     if bytes_eq word (codes "fixed") then Some encoding.Fixed else
     if bytes_eq word (codes "string") then Some encoding.String else None
 
--- which deletes its columns may have
+-- which deletes its columns may have, by a word
 unfoldable pub deletes_of : List ℕ → Option Deletes
 deletes_of word =
     if bytes_eq word (codes "none") then Some deletes.None else
     if bytes_eq word (codes "full") then Some deletes.Full else None
 
--- these, or none where nothing stands
+-- which deletes a field allows: none where nothing stands
 abbrev pub deletes_in : Option Data → Option Deletes
 deletes_in None = Some deletes.None
 deletes_in (Some d) = as_str d >>= deletes_of

@@ -7,7 +7,7 @@ use Rattle.iter_config.specs.Faults.{Fault, fault}
 use Rattle.iter_config.specs.Fields.{keys_within}
 use Rattle.iter_config.specs.Iterators.{iterators_from}
 use Rattle.iter_config.specs.Order.{in_priority_order}
-use Rattle.iter_config.specs.Rules.{first_breaking, first_repeat, first_unscanned}
+use Rattle.iter_config.specs.Rules.{all_scopes, first_breaking, first_gap, first_repeat, first_unscanned}
 use Rattle.iter_config.specs.declared.iter_spec.IterSpec.{IterSpec}
 use Rattle.iter_config.specs.declared.error.Rule.{Rule}
 use Rattle.iter_config.specs.declared.error.Rule.TheVariants.{Toml, Field, Name, Priority, NoScan, NotPrefix, Order, Overlap, FullUnderVersions}
@@ -45,7 +45,7 @@ broken_by rule (Some n) next = Err (fault rule n)
 unfoldable pub in_order : List ℕ → List IterSpec → Result (List IterSpec) Fault
 in_order priorities specs =
     broken_by NoScan (first_unscanned priorities specs)
-    (broken_by NotPrefix (first_breaking NotPrefix priorities specs)
+    (broken_by NotPrefix (first_gap priorities all_scopes specs)
     (broken_by Order (first_breaking Order priorities specs)
     (broken_by Overlap (first_breaking Overlap priorities specs)
     (broken_by FullUnderVersions (first_breaking FullUnderVersions priorities specs)

@@ -14,32 +14,32 @@ use Rattle.iter_config.specs.declared.predicate.Predicate.TheVariants.{Family, Q
 abbrev pub filter_keys : List (List ℕ)
 filter_keys = codes "negate" ∷ shared_keys
 
--- one of the families
+-- whether a family is one of `families`
 unfoldable pub family_test : Members → Option Predicate
 family_test ms = do
   families ← get_member (codes "families") ms >>= names_in
   if keys_within (codes "families" ∷ filter_keys) ms then Some (Family families) else None
 
--- qualifiers from `from` up to `to`
+-- whether a qualifier is from `from` up to `to`
 unfoldable pub qualifier_test : Members → Option Predicate
 qualifier_test ms = do
   from ← name_or_none (get_member (codes "from") ms)
   to ← name_or_none (get_member (codes "to") ms)
   if keys_within (codes "from" ∷ codes "to" ∷ filter_keys) ms then Some (QualifierSlice from to) else None
 
--- one of the visibilities
+-- whether a visibility is one of `visibilities`
 unfoldable pub visibility_test : Members → Option Predicate
 visibility_test ms = do
   visibilities ← get_member (codes "visibilities") ms >>= names_in
   if keys_within (codes "visibilities" ∷ filter_keys) ms then Some (VisibilitySet visibilities) else None
 
--- a needle that isn't empty
+-- whether a needle stands in an entry; it has a byte at least
 unfoldable pub grep_test : Members → Option Predicate
 grep_test ms = do
   needle ← get_member (codes "needle") ms >>= spelled_in
   if nat_le 1 (length needle) then (if keys_within (codes "needle" ∷ filter_keys) ms then Some (Grep needle) else None) else None
 
--- times from `from` to `to`, which are the least and the greatest number of 64 bits where nothing stands
+-- whether a time is from `from` to `to`, which are the least and the greatest number of 64 bits where nothing stands
 unfoldable pub times_test : Members → Option Predicate
 times_test ms = do
   from ← integer_or (negsuc 9223372036854775807) (get_member (codes "from") ms)
@@ -55,7 +55,7 @@ test_of word ms =
     if bytes_eq word (codes "grep") then grep_test ms else
     if bytes_eq word (codes "times") then times_test ms else None
 
--- a filter
+-- the filter of a table
 unfoldable pub filter_of : List ℕ → Members → Option Kind
 filter_of word ms = do
   predicate ← test_of word ms

@@ -19,8 +19,8 @@ in_priority_order specs = sorted runs_behind specs
 abbrev pub NoneClashes : (IterSpec → IterSpec → Bool) → List IterSpec → Type 0
 NoneClashes clash specs = IsDistinct clash specs
 
--- what each configuration keeps (this project's rules): at most 16 iterators; the fields' limits; no name and no priority twice; the order of priorities; all
--- run in scans; those of minor and of major compactions come first; the order of those; no column is combined twice; no versions in
+-- what each configuration keeps (this project's rules): at most 16 iterators; the fields' limits; no name and no priority twice; the order of
+-- priorities; all run in scans; those of minor and of major compactions come first; the order of those; no column is combined twice; no versions in
 -- major compactions behind a combiner of columns with deletes
 pub record IsConfig (specs : List IterSpec) : Type 0 where
   pub few : length specs ≤ 16

@@ -11,6 +11,7 @@ use Rattle.iter_config.specs.declared.iter_spec.Deletes.TheVariants as deletes
 use Rattle.iter_config.specs.declared.iter_spec.IterSpec.{IterSpec}
 use Rattle.iter_config.specs.declared.iter_spec.Kind.{Kind}
 use Rattle.iter_config.specs.declared.iter_spec.Kind.TheVariants.{Filter, Versions, Combine}
+use Rattle.iter_config.specs.declared.iter_spec.Scopes.{Scopes}
 
 -- two iterators have one name
 abbrev pub same_name : IterSpec → IterSpec → Bool
@@ -20,9 +21,13 @@ same_name s t = bytes_eq s.name t.name
 abbrev pub same_priority : IterSpec → IterSpec → Bool
 same_priority s t = s.priority == t.priority
 
--- the second runs in compactions in which the first does not (the first iterator of which this holds stands just behind one of those)
+-- the second scopes have a compaction's that the first lack
+abbrev pub scopes_gap : Scopes → Scopes → Bool
+scopes_gap s t = (t.minc && not s.minc) || (t.majc && not s.majc)
+
+-- the second runs in compactions in which the first doesn't
 abbrev pub leaves_gap : IterSpec → IterSpec → Bool
-leaves_gap s t = (t.scopes.minc && not s.scopes.minc) || (t.scopes.majc && not s.scopes.majc)
+leaves_gap s t = scopes_gap s.scopes t.scopes
 
 -- an iterator runs in compactions
 abbrev pub in_base : IterSpec → Bool
@@ -34,11 +39,13 @@ is_cell_filter (Filter predicate negate) = not (is_of_column predicate)
 is_cell_filter (Versions max) = false
 is_cell_filter (Combine op columns encoding deletes) = false
 
+-- an iterator that counts versions
 abbrev pub is_versions : Kind → Bool
 is_versions (Filter predicate negate) = false
 is_versions (Versions max) = true
 is_versions (Combine op columns encoding deletes) = false
 
+-- a combiner
 abbrev pub is_combiner : Kind → Bool
 is_combiner (Filter predicate negate) = false
 is_combiner (Versions max) = false
@@ -74,11 +81,12 @@ names_meet n m = bytes_eq n.family m.family && qualifiers_meet n.qualifier m.qua
 abbrev pub shares_column : IterSpec → IterSpec → Bool
 shares_column s t = list_any (λ n. list_any (names_meet n) (listed_columns t.kind)) (listed_columns s.kind)
 
--- a combiner whose columns may have deletes
+-- columns may have deletes
 abbrev pub is_of_deletes : Deletes → Bool
 is_of_deletes deletes.None = false
 is_of_deletes deletes.Full = true
 
+-- a combiner whose columns may have deletes
 abbrev pub is_full_combiner : Kind → Bool
 is_full_combiner (Filter predicate negate) = false
 is_full_combiner (Versions max) = false
@@ -95,7 +103,7 @@ clashes Field s t = false
 clashes Name s t = same_name s t
 clashes Priority s t = same_priority s t
 clashes NoScan s t = false
-clashes NotPrefix s t = leaves_gap s t
+clashes NotPrefix s t = false
 clashes Order s t = out_of_order s t
 clashes Overlap s t = shares_column s t
 clashes FullUnderVersions s t = is_full_under_versions s t
@@ -114,15 +122,24 @@ own_number before s = length before + 1
 abbrev pub number_by : List ℕ → IterSpec → ℕ
 number_by priorities s = unwrap_or (position (λ p. p == s.priority) priorities) 0 + 1
 
--- the first iterator of a document that breaks a rule with one before it
+-- the number of the first iterator of a document that breaks a rule with one before it
 abbrev pub first_repeat : Rule → List IterSpec → Option ℕ
 first_repeat rule specs = first_clash own_number (clashes rule) [] specs
 
--- the first one in priority order that does
+-- that of the first one in priority order
 abbrev pub first_breaking : Rule → List ℕ → List IterSpec → Option ℕ
 first_breaking rule priorities specs = first_clash (λ before s. number_by priorities s) (clashes rule) [] specs
 
--- the first one in priority order that doesn't run in scans
+-- the number of the first iterator in priority order that doesn't run in scans
 abbrev pub first_unscanned : List ℕ → List IterSpec → Option ℕ
 first_unscanned priorities [] = None
 first_unscanned priorities (s ∷ ss) = if s.scopes.scan then first_unscanned priorities ss else Some (number_by priorities s)
+
+-- each scope: the first iterator leaves no gap
+abbrev pub all_scopes : Scopes
+all_scopes = record { scan = true; minc = true; majc = true }
+
+-- the number of the first iterator that has a compaction's scope which the one just before it lacks; the one before these has the scopes `before`
+abbrev pub first_gap : List ℕ → Scopes → List IterSpec → Option ℕ
+first_gap priorities before [] = None
+first_gap priorities before (s ∷ ss) = if scopes_gap before s.scopes then Some (number_by priorities s) else first_gap priorities s.scopes ss

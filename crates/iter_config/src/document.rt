@@ -13,7 +13,7 @@ use crate::error::{ConfigError, Rule};
 use crate::fields::{find, has_only};
 use crate::iter_spec::IterSpec;
 use crate::iterators::{MAX_ITERATORS, iterators_in};
-use crate::rules::{first_breaking, first_repeat, first_unscanned};
+use crate::rules::{first_breaking, first_gap, first_repeat, first_unscanned};
 use cell_key::NoMemory;
 use std::alloc::Global;
 use toml::value::Table;
@@ -88,7 +88,7 @@ fn in_order(priorities: &[u32], iterators: Vec<IterSpec>) -> Result<Config, Conf
     if let Some(at) = first_unscanned(priorities, &iterators) {
         return Err(broken(Rule::NoScan, at));
     }
-    if let Some(at) = first_breaking(Rule::NotPrefix, priorities, &iterators) {
+    if let Some(at) = first_gap(priorities, &iterators) {
         return Err(broken(Rule::NotPrefix, at));
     }
     if let Some(at) = first_breaking(Rule::Order, priorities, &iterators) {

@@ -2,19 +2,19 @@
 ghost use Rattle.std.specs.Prelude.{◌≡◌, ◌==◌, ◌<◌, ◌≤◌, IfSome, length, position};
 ghost use Rattle.std.specs.List.{list_any};
 ghost use Rattle.cell_key.specs.declared.column_name.ColumnName.{ColumnName};
-ghost use Rattle.iter_config.specs.Rules.{clashes, first_breaking, first_repeat, first_unscanned, in_base, is_cell_filter, is_combiner, is_disordered, is_full_combiner, is_full_under_versions, is_of_deletes, is_versions, leaves_gap, listed_columns, names_meet, number_by, out_of_order, qualifiers_meet, shares_column};
+ghost use Rattle.iter_config.specs.Rules.{all_scopes, clashes, first_breaking, first_gap, first_repeat, first_unscanned, in_base, is_cell_filter, is_combiner, is_disordered, is_full_combiner, is_full_under_versions, is_of_deletes, is_versions, listed_columns, names_meet, number_by, out_of_order, qualifiers_meet, scopes_gap, shares_column};
 
 use crate::error::Rule;
-use crate::iter_spec::{Deletes, IterSpec, Kind};
+use crate::iter_spec::{Deletes, IterSpec, Kind, Scopes};
 use crate::iterators::MAX_ITERATORS;
 use crate::predicate::Predicate;
 use cell_key::{ByteText, ColumnName};
 
-/// Whether `second` runs in compactions in which `first` doesn't.
-fn leaves_gap(first: &IterSpec, second: &IterSpec) -> bool
-    ensures { result ≡ leaves_gap first.now second.now }
+/// Whether `second` has a compaction's scope that `first` lacks.
+fn scopes_gap(first: Scopes, second: Scopes) -> bool
+    ensures { result ≡ scopes_gap first second }
 {
-    (second.scopes.minc && !first.scopes.minc) || (second.scopes.majc && !first.scopes.majc)
+    (second.minc && !first.minc) || (second.majc && !first.majc)
 }
 
 fn is_cell_filter(kind: &Kind) -> bool
@@ -131,10 +131,9 @@ fn clashes(rule: Rule, first: &IterSpec, second: &IterSpec) -> bool
     ensures { result ≡ clashes rule first.now second.now }
 {
     match rule {
-        Rule::Toml | Rule::Field | Rule::NoScan => false,
+        Rule::Toml | Rule::Field | Rule::NoScan | Rule::NotPrefix => false,
         Rule::Name => first.name.bytes() == second.name.bytes(),
         Rule::Priority => first.priority == second.priority,
-        Rule::NotPrefix => leaves_gap(first, second),
         Rule::Order => out_of_order(first, second),
         Rule::Overlap => shares_column(first, second),
         Rule::FullUnderVersions => is_full_under_versions(first, second),
@@ -202,6 +201,25 @@ pub fn first_unscanned(priorities: &[u32], iterators: &[IterSpec]) -> Option<u32
         if !spec.scopes.scan {
             return Some(number_by(priorities, spec));
         }
+    }
+    None
+}
+
+/// The number of the first iterator in priority order that has a compaction's scope which the one just before it lacks.
+pub fn first_gap(priorities: &[u32], iterators: &[IterSpec]) -> Option<u32>
+    requires { length priorities.now ≤ MAX_ITERATORS }
+    ensures { result ≡ first_gap priorities.now all_scopes iterators.now }
+{
+    let mut before = Scopes {
+        scan: true,
+        minc: true,
+        majc: true,
+    };
+    for spec in iterators {
+        if scopes_gap(before, spec.scopes) {
+            return Some(number_by(priorities, spec));
+        }
+        before = spec.scopes;
     }
     None
 }

@@ -1,7 +1,7 @@
 use Rattle.std.proofs.Common.{ℕ, List, sym, ◌∙◌}
-use Rattle.iter_config.specs.Rules.{is_full_under_versions, leaves_gap, number_by, out_of_order, shares_column}
+use Rattle.iter_config.specs.Rules.{is_full_under_versions, number_by, out_of_order, shares_column}
 use Rattle.iter_config.specs.declared.iter_spec.IterSpec.{IterSpec}
-use Rattle.iter_config.proofs.Repeats.{IsDistinct-from_first_clash, scans-from_first_unscanned}
+use Rattle.iter_config.proofs.Repeats.{IsDistinct-from_first_clash, prefixes-from_first_gap, scans-from_first_unscanned}
 use Rattle.iter_config.proofs.document.in_order.Goals as goal
 
 pub of-requires : goal.of-requires
@@ -14,12 +14,12 @@ of-requires c =
       priorities = c.requires.priorities;
       order = c.requires.order;
       scans = scans-from_first_unscanned c.args.priorities.now _ (rw c.deref.ensures.value at (sym c.first_unscanned.ensures ∙ c.in_default.is));
-      prefixes = IsDistinct-from_first_clash number leaves_gap _ (rw c.deref-2.ensures.value at (sym c.first_breaking.ensures ∙ c.in_default-first_breaking.is));
+      prefixes = prefixes-from_first_gap c.args.priorities.now _ (rw c.deref-2.ensures.value at (sym c.first_gap.ensures ∙ c.in_default-first_gap.is));
       base_order =
-          IsDistinct-from_first_clash number out_of_order _ (rw c.deref-3.ensures.value at (sym c.first_breaking-2.ensures ∙ c.in_default-first_breaking-2.is));
+          IsDistinct-from_first_clash number out_of_order _ (rw c.deref-3.ensures.value at (sym c.first_breaking.ensures ∙ c.in_default-first_breaking.is));
       apart =
-          IsDistinct-from_first_clash number shares_column _ (rw c.deref-4.ensures.value at (sym c.first_breaking-3.ensures ∙ c.in_default-first_breaking-3.is));
+          IsDistinct-from_first_clash number shares_column _ (rw c.deref-4.ensures.value at (sym c.first_breaking-2.ensures ∙ c.in_default-first_breaking-2.is));
       not_newest =
           IsDistinct-from_first_clash number is_full_under_versions _
-          (rw c.deref-5.ensures.value at (sym c.first_breaking-4.ensures ∙ c.in_default-first_breaking-4.is));
+          (rw c.deref-5.ensures.value at (sym c.first_breaking-3.ensures ∙ c.in_default-first_breaking-3.is));
     }
