@@ -1,5 +1,5 @@
 pub mod Alike
 pub mod Steps
 pub mod Runs
-pub mod Disjoint
 pub mod Taken
+pub mod ExampleReads

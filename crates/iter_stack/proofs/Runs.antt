@@ -14,7 +14,8 @@ use Rattle.iter_config.specs.declared.iter_spec.IterSpec.{IterSpec}
 use Rattle.iter_config.specs.declared.iter_spec.Kind.{Kind}
 use Rattle.iter_config.specs.declared.iter_spec.Kind.TheVariants.{Filter, Versions, Combine}
 use Rattle.iter_stack.specs.Usages.{runs_in, usage_cells, usage_steady, is_array_sum}
-use Rattle.iter_stack.specs.Places.{bottom_cells, all_made, steady_by_all}
+use Rattle.iter_stack.specs.Places.{bottom_cells}
+use Rattle.iter_stack.proofs.Steps.{all_made, steady_by_all}
 use Rattle.iter_stack.specs.declared.usage.Usage.{Usage}
 use Rattle.iter_stack.specs.declared.usage.Usage.TheVariants.{Scan, Minc, MajcPart, MajcFull}
 

@@ -1,10 +1,26 @@
 -- Sixteen places, four by four, are the whole of a configuration.
-use Rattle.std.proofs.Common.{◌≡◌, ◌≤◌, ℕ, zero, suc, Bool, cond, true, false, List, [], ◌∷◌, Option, Some, None, length, drop, slice_get, refl, sym, ap, ◌∙◌, subst}
+use Rattle.std.proofs.Common.{◌≡◌, ◌≤◌, ℕ, zero, suc, Bool, List, [], ◌∷◌, Option, Some, None, length, drop, slice_get, refl, sym, ap, ◌∙◌, subst}
+use Rattle.std.specs.Prelude.{⊤}
 use Rattle.std.proofs.lemmas.List.{drop_all}
 use Rattle.tablet_model.specs.Cell.{Cell}
 use Rattle.iter_config.specs.declared.iter_spec.IterSpec.{IterSpec}
-use Rattle.iter_stack.specs.Places.{made_at, steady_at, TakesAt, four_made, steady_by_four, FourTake, all_made, steady_by_all, AllTake}
+use Rattle.iter_stack.specs.Places.{made_at, steady_at, TakesAt, made_by, steady_by, TakesBy, four_made, steady_by_four, FourTake}
 use Rattle.iter_stack.specs.declared.usage.Usage.{Usage}
+
+-- what all iterators make, one after another
+unfoldable pub all_made : Usage → List IterSpec → List Cell → List Cell
+all_made usage [] list = list
+all_made usage (s ∷ ss) list = all_made usage ss (made_by usage s list)
+
+-- whether they are steady over a source
+unfoldable pub steady_by_all : Usage → List IterSpec → Bool → Bool
+steady_by_all usage [] source = source
+steady_by_all usage (s ∷ ss) source = steady_by_all usage ss (steady_by usage s source)
+
+-- each takes what the one before it makes
+unfoldable pub AllTake : Usage → List IterSpec → List Cell → Type 0
+AllTake usage [] list = ⊤
+AllTake usage (s ∷ ss) list = TakesBy usage s list × AllTake usage ss (made_by usage s list)
 
 -- a fold over iterators, place by place
 module _ {X : Type 0} (at : Option IterSpec → X → X) (all : List IterSpec → X → X) (none : (x : X) → at None x ≡ x) (nil : (x : X) → all [] x ≡ x) (cons : (s : IterSpec) (ss : List IterSpec) (x : X) → all (s ∷ ss) x ≡ all ss (at (Some s) x)) where

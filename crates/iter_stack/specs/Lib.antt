@@ -4,3 +4,4 @@ pub mod LevelStages
 pub mod Levels
 pub mod Stacks
 pub mod Places
+pub mod Examples

@@ -26,7 +26,7 @@ KindTakes (Filter predicate negate) list = ⊤
 KindTakes (Versions max) list = ⊤
 KindTakes (Combine op columns encoding deletes) list = AreCombinable columns (reduction_of op encoding) list
 
--- whether it leaves a source steady
+-- whether it is steady, where `source` says whether its source is
 abbrev pub kind_steady : Kind → Bool → Bool
 kind_steady kind source = cond (is_array_sum kind) false source
 
@@ -34,7 +34,7 @@ kind_steady kind source = cond (is_array_sum kind) false source
 abbrev pub made_by : Usage → IterSpec → List Cell → List Cell
 made_by usage s list = cond (runs_in usage s) (stage (stage_of s.kind) list) list
 
--- whether it leaves a source steady, if it runs
+-- whether it is steady over its source, if it runs
 abbrev pub steady_by : Usage → IterSpec → Bool → Bool
 steady_by usage s source = cond (runs_in usage s) (kind_steady s.kind source) source
 
@@ -42,12 +42,12 @@ steady_by usage s source = cond (runs_in usage s) (kind_steady s.kind source) so
 abbrev pub TakesBy : Usage → IterSpec → List Cell → Type 0
 TakesBy usage s list = runs_in usage s ≡ true → KindTakes s.kind list
 
--- what the iterator makes, if there is one
+-- what the iterator of a place makes, if there is one
 abbrev pub made_at : Usage → Option IterSpec → List Cell → List Cell
 made_at usage None list = list
 made_at usage (Some s) list = made_by usage s list
 
--- whether it leaves a source steady
+-- whether it is steady over its source
 abbrev pub steady_at : Usage → Option IterSpec → Bool → Bool
 steady_at usage None source = source
 steady_at usage (Some s) source = steady_by usage s source
@@ -63,7 +63,7 @@ four_made usage specs i list =
     made_at usage (slice_get specs (i + 3)) (made_at usage (slice_get specs (i + 2)) (made_at usage (slice_get specs (i + 1))
     (made_at usage (slice_get specs i) list)))
 
--- whether they leave a source steady
+-- whether they are steady over a source
 abbrev pub steady_by_four : Usage → List IterSpec → ℕ → Bool → Bool
 steady_by_four usage specs i source =
     steady_at usage (slice_get specs (i + 3)) (steady_at usage (slice_get specs (i + 2)) (steady_at usage (slice_get specs (i + 1))
@@ -77,18 +77,3 @@ FourTake usage specs i list =
     let three = made_at usage (slice_get specs (i + 2)) two in
     TakesAt usage (slice_get specs i) list × TakesAt usage (slice_get specs (i + 1)) one
     × TakesAt usage (slice_get specs (i + 2)) two × TakesAt usage (slice_get specs (i + 3)) three
-
--- what all iterators make, one after another
-unfoldable pub all_made : Usage → List IterSpec → List Cell → List Cell
-all_made usage [] list = list
-all_made usage (s ∷ ss) list = all_made usage ss (made_by usage s list)
-
--- whether they leave a source steady
-unfoldable pub steady_by_all : Usage → List IterSpec → Bool → Bool
-steady_by_all usage [] source = source
-steady_by_all usage (s ∷ ss) source = steady_by_all usage ss (steady_by usage s source)
-
--- each takes what the one before it makes
-unfoldable pub AllTake : Usage → List IterSpec → List Cell → Type 0
-AllTake usage [] list = ⊤
-AllTake usage (s ∷ ss) list = TakesBy usage s list × AllTake usage ss (made_by usage s list)

@@ -1,4 +1,5 @@
 #![tactic(auto, unfolding(crate::specs::Levels::level_cells, crate::specs::Levels::level_rest, crate::specs::Levels::level_steady, crate::specs::Levels::level_valid))]
+
 ghost use Rattle.std.specs.Prelude.{◌<◌, length};
 
 use crate::stage::LevelStage;
@@ -10,11 +11,12 @@ use iter_contract::SortedSource;
 use std::alloc::Global;
 use versioning::{version_next, version_seek, version_top};
 
-/// One stage over a source. The source is the first of `sources`: so levels may stand one over another.
+/// One stage over a source.
 #[derive(Drop)]
 pub struct Level<S> {
-    pub(crate) sources: Vec<S>,
-    pub(crate) stage: LevelStage,
+    /// The source is the first. It stands in a `Vec`, so that a nest of levels is dropped by a call for each.
+    sources: Vec<S>,
+    stage: LevelStage,
     ghost some: { 0 < length sources.items },
 }
 

@@ -7,8 +7,8 @@ ghost use Rattle.iter_stack.specs.Stacks.{four_cells, four_rest, four_steady, fo
 ghost use Rattle.iter_stack.specs.Places.{bottom_cells, made_at, steady_at, TakesAt, four_made, steady_by_four, FourTake};
 
 use crate::level::Level;
-use crate::stage::LevelStage;
 use crate::stack::Four;
+use crate::stage::LevelStage;
 use crate::usage::Usage;
 use cell_key::NoMemory;
 use iter_config::Config;
@@ -32,12 +32,7 @@ pub(crate) fn bottom<S: SortedSource>(
 }
 
 /// The stage of the iterator at place `i`, if there is one and it runs.
-fn stage_at(
-    alloc: Global,
-    config: &Config,
-    usage: Usage,
-    i: usize,
-) -> Result<LevelStage, NoMemory>
+fn stage_at(alloc: Global, config: &Config, usage: Usage, i: usize) -> Result<LevelStage, NoMemory>
     ensures { IfOk result (IsFresh (made_at usage (slice_get config.now i)) (steady_at usage (slice_get config.now i))
         (TakesAt usage (slice_get config.now i))) }
 {

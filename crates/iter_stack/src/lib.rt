@@ -7,7 +7,12 @@ mod levels;
 mod stack;
 mod stage;
 mod usage;
+mod walking;
 
 pub use building::build;
 pub use stack::Stack;
 pub use usage::Usage;
+pub use walking::walk_to_end;
+
+#[cfg(test)]
+mod tests;

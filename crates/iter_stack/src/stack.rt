@@ -1,4 +1,5 @@
 #![tactic(auto, unfolding(crate::specs::Stacks::stack_cells, crate::specs::Stacks::stack_rest, crate::specs::Stacks::stack_steady, crate::specs::Stacks::stack_valid))]
+
 use crate::level::Level;
 use cell_key::{EntryRef, NoMemory, Range};
 use iter_contract::SortedSource;
@@ -7,8 +8,8 @@ use std::alloc::Global;
 /// Four levels, one over another.
 pub type Four<S> = Level<Level<Level<Level<S>>>>;
 
-/// The iterators of a configuration over a leaf, one over another. The undermost level drops what deletes hide; a level
-/// that no iterator needs shows the one under it as it is.
+/// The iterators of a configuration over a leaf, one over another. The undermost level drops what deletes hide, and
+/// sixteen stand over it; one that no iterator needs shows what is under it as it is.
 #[derive(Drop)]
 pub struct Stack<S> {
     pub(crate) levels: Four<Four<Four<Four<Level<S>>>>>,

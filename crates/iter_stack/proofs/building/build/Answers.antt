@@ -1,7 +1,6 @@
-use Rattle.std.proofs.Common.{◌≡◌, ◌∙◌, ap}
-use Rattle.iter_stack.specs.Places.{all_made, steady_by_all}
+use Rattle.std.proofs.Common.{◌∙◌, ap}
 use Rattle.iter_stack.specs.Stacks.{stack_cells, stack_rest, stack_steady, stack_valid}
-use Rattle.iter_stack.proofs.Steps.{sixteen_made, sixteen_steady, first_take, second_take, third_take, fourth_take}
+use Rattle.iter_stack.proofs.Steps.{all_made, steady_by_all, sixteen_made, sixteen_steady, first_take, second_take, third_take, fourth_take}
 use Rattle.iter_stack.proofs.Runs.{usage_made, usage_keeps_steady}
 use Rattle.iter_stack.proofs.Taken.{all_taken}
 use Rattle.iter_stack.proofs.building.build.Goals as goal
@@ -17,12 +16,12 @@ returns g c =
     let four = c.in_ok-levels.ensures in
     record {
       same_cells = sixteen_made c.args.usage specs c.count.ensures.rules.few _ one.same_cells two.same_cells three.same_cells four.same_cells
-        ∙ ap (all_made c.args.usage specs) bottom.same_cells
-        ∙ usage_made c.args.usage specs (g.S.SortedSource.cells c.args.leaf);
+          ∙ ap (all_made c.args.usage specs) bottom.same_cells
+          ∙ usage_made c.args.usage specs (g.S.SortedSource.cells c.args.leaf);
       unsought = four.unsought;
       same_steady = sixteen_steady c.args.usage specs c.count.ensures.rules.few _ one.same_steady two.same_steady three.same_steady four.same_steady
-        ∙ ap (steady_by_all c.args.usage specs) bottom.same_steady
-        ∙ usage_keeps_steady c.args.usage specs (g.S.SortedSource.steady c.args.leaf);
+          ∙ ap (steady_by_all c.args.usage specs) bottom.same_steady
+          ∙ usage_keeps_steady c.args.usage specs (g.S.SortedSource.steady c.args.leaf);
       is_valid = four.is_valid;
     }
 

@@ -1,9 +1,8 @@
-use Rattle.std.proofs.Common.{◌≡◌, rules, List, [], ap, sym, ◌∙◌}
+use Rattle.std.proofs.Common.{rules, [], ap, sym, ◌∙◌}
 use Rattle.std.specs.Arc.{arc_value}
-use Rattle.tablet_model.specs.Cell.{Cell}
 use Rattle.iter_stack.specs.Firsts.{at_first}
 use Rattle.iter_stack.specs.LevelStages.{stage_cells}
-use Rattle.iter_stack.specs.Levels.{level_cells, level_rest, level_steady, level_valid, level_sorted, level_bounded}
+use Rattle.iter_stack.specs.Levels.{level_cells}
 use Rattle.iter_stack.proofs.Alike.{combined_alike}
 use Rattle.iter_stack.proofs.level.LevelSortedSource.next.Goals as goal
 

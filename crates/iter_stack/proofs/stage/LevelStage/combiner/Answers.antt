@@ -1,4 +1,4 @@
-use Rattle.std.proofs.Common.{◌≡◌, ◌≢◌, rules, false, sym, ap, ◌∙◌, subst}
+use Rattle.std.proofs.Common.{rules, false, sym, ap, ◌∙◌, subst}
 use Rattle.std.specs.Prelude.{if◌then◌else◌}
 use Rattle.tablet_model.specs.Combines.{combined}
 use Rattle.cell_key.specs.Listed.{column_listed}

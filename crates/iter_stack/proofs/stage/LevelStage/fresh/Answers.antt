@@ -1,4 +1,4 @@
-use Rattle.std.proofs.Common.{◌≡◌, refl, sym, subst}
+use Rattle.std.proofs.Common.{refl, sym, subst}
 use Rattle.iter_stack.specs.LevelStages.{stage_cells, stage_steady, StageTakes, IsFresh}
 use Rattle.iter_stack.specs.declared.stage.LevelStage.{LevelStage}
 use Rattle.iter_stack.specs.declared.stage.LevelStage.TheVariants as level

@@ -1,0 +1,12 @@
+// The entries that a tablet holds in memory: a map to which mutations add, and cursors over it.
+#![tactic(auto)]
+
+mod mem_cursor;
+mod mem_map;
+mod updates;
+
+pub use mem_cursor::MemCursor;
+pub use mem_map::MemMap;
+
+#[cfg(test)]
+mod tests;

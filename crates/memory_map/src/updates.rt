@@ -1,0 +1,49 @@
+// The entries that a mutation adds.
+ghost use Rattle.std.specs.Prelude.{◌≡◌, ◌++◌, None, OnOk};
+ghost use Rattle.tablet_model.specs.Bounds.{KeyBounds};
+ghost use Rattle.tablet_model.specs.History.{entries_of, entry_of};
+ghost use Rattle.tablet_model.specs.Ingest.{out_of_bounds};
+ghost use Rattle.cell_key.specs.Mutations.{change_of, row_change_of};
+ghost use Rattle.cell_key.specs.Views.{cell_of};
+
+use cell_key::{Entries, Entry, EntryRef, KeyRef, Mutation, NoMemory, Update};
+use std::alloc::Global;
+
+/// Puts the entries of a mutation at the end.
+pub(crate) fn push_mutation(
+    alloc: Global,
+    entries: &mut Entries,
+    mutation: &Mutation,
+    time: i64,
+) -> Result<(), NoMemory>
+    requires { out_of_bounds (row_change_of mutation.now) ≡ None }
+    ensures { OnOk result (entries.new ≡ entries.old ++ entries_of time (row_change_of mutation.now)) }
+{
+    for update in mutation.updates.as_slice() {
+        let entry = Entry::of(alloc, entry_of(mutation.row.bytes(), time, update))?;
+        entries.push(entry)?;
+    }
+    Ok(())
+}
+
+/// The entry of an update at a time. A delete gives a marker, whose value is empty.
+fn entry_of<'a>(row: &'a [u8], time: i64, update: &'a Update) -> EntryRef<'a>
+    requires { KeyBounds row.now update.now.family update.now.qualifier update.now.visibility }
+    ensures { cell_of result ≡ entry_of row.now time (change_of update.now) }
+{
+    let (value, deleted): (&[u8], bool) = match &update.value {
+        Some(value) => (value.bytes(), false),
+        None => (&[], true),
+    };
+    EntryRef {
+        key: KeyRef {
+            row,
+            family: update.family.bytes(),
+            qualifier: update.qualifier.bytes(),
+            visibility: update.visibility.bytes(),
+            time,
+            deleted,
+        },
+        value,
+    }
+}
