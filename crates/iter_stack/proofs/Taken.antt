@@ -30,7 +30,8 @@ use Rattle.iter_config.specs.declared.iter_spec.IterSpec.{IterSpec}
 use Rattle.iter_config.specs.declared.iter_spec.Kind.{Kind}
 use Rattle.iter_config.specs.declared.iter_spec.Kind.TheVariants.{Filter, Versions, Combine}
 use Rattle.iter_config.specs.declared.predicate.Predicate.{Predicate}
-use Rattle.iter_config.proofs.Following.{AreApart, apart_columns, stages_all}
+use Rattle.iter_config.proofs.Following.{AreApart, stages_all}
+use Rattle.iter_config.proofs.Meeting.{apart_columns}
 use Rattle.iter_stack.specs.Places.{bottom_cells, made_by, KindTakes}
 use Rattle.iter_stack.proofs.Steps.{AllTake}
 use Rattle.iter_stack.specs.Usages.{runs_in}
