@@ -3,7 +3,7 @@ use Rattle.std.proofs.Common.{◌≡◌, Bool, true, false, not, ◌&&◌, ◌||
 use Rattle.std.specs.List.{AllByRecursion, list_all}
 use Rattle.tablet_model.specs.Cell.{Cell}
 use Rattle.tablet_model.specs.Reading.{IsReadBy, AreUnmarkedRead}
-use Rattle.cell_key.specs.Listed.{is_listed, column_listed}
+use Rattle.cell_key.specs.Listed.{column_listed}
 use Rattle.number_values.specs.Values.{reduction_of}
 use Rattle.iter_config.specs.Columns.{kind_reads, reads_value}
 use Rattle.iter_config.specs.Stages.{stage_of, stages_of}

@@ -1,5 +1,5 @@
 -- What the iterators of a configuration make of a list, one after another. All of this is this project's own.
-use Rattle.std.specs.Prelude.{◌≡◌, ℕ, ◌+◌, Bool, true, false, cond, List, [], ◌∷◌, Option, Some, None, slice_get, ⊤}
+use Rattle.std.specs.Prelude.{◌≡◌, ℕ, ◌+◌, Bool, true, false, cond, List, Option, Some, None, slice_get, ⊤}
 use Rattle.tablet_model.specs.Cell.{Cell}
 use Rattle.tablet_model.specs.Markers.{live, mark}
 use Rattle.tablet_model.specs.Stages.{stage}

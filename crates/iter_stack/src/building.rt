@@ -14,8 +14,8 @@ use iter_contract::SortedSource;
 use std::alloc::Global;
 
 /// The iterators of a configuration that run in a usage, over a leaf, which may have been sought or not. The
-/// configuration has to read each value of the leaf that is no marker's. It takes the memory that its other calls need,
-/// beside what those of the leaf take.
+/// configuration has to read each value of the leaf that is no marker's. It takes memory, and so do the calls of a stack
+/// that is not steady.
 pub fn build<S: SortedSource>(
     alloc: Global,
     config: &Config,

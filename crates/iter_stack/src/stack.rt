@@ -8,8 +8,9 @@ use std::alloc::Global;
 /// Four levels, one over another.
 pub type Four<S> = Level<Level<Level<Level<S>>>>;
 
-/// The iterators of a configuration over a leaf, one over another. The undermost level drops what deletes hide, and
-/// sixteen stand over it; one that no iterator needs shows what is under it as it is.
+/// The iterators of a configuration over a leaf, one over another. The lowest level drops what deletes hide, and sixteen
+/// stand over it; one that no iterator needs shows what is under it as it is. It is steady where its leaf is, and no
+/// iterator that runs adds arrays.
 #[derive(Drop)]
 pub struct Stack<S> {
     pub(crate) levels: Four<Four<Four<Four<Level<S>>>>>,

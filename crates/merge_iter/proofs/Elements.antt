@@ -1,6 +1,6 @@
 -- What is said of each element of a list.
-use Rattle.std.proofs.Common.{◌≡◌, ℕ, zero, suc, ◌+◌, ◌<◌, ◌≤◌, ◌&&◌, Bool, true, List, [], ◌∷◌, ◌++◌, length, map, take, get_or, set, refl, sym, ◌∙◌, ap, subst, arith}
-use Rattle.std.proofs.lemmas.List.{length-map, take_all, take_more, take_more_set, map-append}
+use Rattle.std.proofs.Common.{◌≡◌, ℕ, zero, suc, ◌+◌, ◌<◌, ◌≤◌, ◌&&◌, Bool, true, List, [], ◌∷◌, length, map, take, get_or, set, refl, sym, ◌∙◌, ap, subst, arith}
+use Rattle.std.proofs.lemmas.List.{length-map, take_all, take_more_set}
 use Rattle.std.specs.List.{AllByRecursion, list_all}
 use Rattle.tablet_model.proofs.Merges.{all_append}
 
@@ -42,12 +42,3 @@ test_read f (y ∷ ys) (suc i) x h l = test_read f ys i x (both (f y) (list_all 
 -- lists of which a function gives the same are of one length
 pub same_length : {X Y : Type 0} (f : X → Y) (xs ys : List X) → map f xs ≡ map f ys → length xs ≡ length ys
 same_length f xs ys h = sym (length-map xs f) ∙ ap length h ∙ length-map ys f
-
--- one element more
-pub map_more : {X Y : Type 0} (f : X → Y) (done : List X) (xs : List X) (i : ℕ) (x y : X) → i < length xs → x ≡ get_or xs i x → f y ≡ f x → map f done ≡ map f (take i xs) → map f (done ++ y ∷ []) ≡ map f (take (i + 1) xs)
-map_more f done xs i x y l e same h =
-    map-append f done (y ∷ [])
-    ∙ ap (λ l. l ++ f y ∷ []) h
-    ∙ ap (λ v. map f (take i xs) ++ v ∷ []) same
-    ∙ sym (map-append f (take i xs) (x ∷ []))
-    ∙ ap (map f) (ap (λ v. take i xs ++ v ∷ []) e ∙ sym (take_more xs i x l))

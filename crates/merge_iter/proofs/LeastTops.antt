@@ -4,48 +4,14 @@ use Rattle.std.proofs.lemmas.List.{length-map, take_more}
 use Rattle.std.specs.Prelude.{is_ok, OnOk, if◌then◌else◌}
 use Rattle.std.specs.List.{AllByRecursion, flat_map}
 use Rattle.tablet_model.specs.Cell.{Cell}
-use Rattle.tablet_model.specs.Cuts.{Span, holds, within}
 use Rattle.tablet_model.specs.Order.{above}
 use Rattle.tablet_model.specs.Sorted.{put, sorted, Ascends, first, later}
 use Rattle.tablet_model.specs.Sum.{sum_all}
-use Rattle.tablet_model.proofs.Cursors.{merge_seek}
 use Rattle.tablet_model.proofs.Merges.{all_append, all_sorted}
 use Rattle.tablet_model.proofs.Orders.{above_exact}
-use Rattle.tablet_model.proofs.Sums.{Ascends-filter, all_weaker, append_put, below_all, nil_cons, put_front, sorted_comm, sorted_right}
+use Rattle.tablet_model.proofs.Sums.{all_weaker, append_put, below_all, nil_cons, put_front, sorted_comm, sorted_right}
 use Rattle.merge_iter.specs.Tops.{comes_before, AreInOrder, IsLeastAt}
 use Rattle.merge_iter.proofs.Elements.{all_set, map_read}
-
--- ---- a seek of a sum
-
-flat_mapped : (f : List Cell → List Cell) (lists : List (List Cell)) → flat_map f lists ≡ flat_map (λ l. l) (map f lists)
-flat_mapped f [] = refl
-flat_mapped f (l ∷ ls) = ap (λ rest. f l ++ rest) (flat_mapped f ls)
-
--- what the sum has in a range is the sum of what the lists have in it
-sum_within : (s : Span) (lists : List (List Cell)) → sum_all (map (λ l. within s l) lists) ≡ within s (sum_all lists)
-unfolding sum_all
-sum_within s lists = sym (merge_seek above above_exact (λ e. holds s e.key) (λ l. l) lists ∙ ap (sorted above) (flat_mapped (λ l. within s l) lists))
-
--- sources that were sought have left what their lists have in the range
-abbrev pub IsSought : {S : Type 0} → (S → List Cell) → (S → List Cell) → Span → S → Type 0
-IsSought rest cells s source = rest source ≡ within s (cells source)
-
--- as one is after its seek
-pub sought_now : {S : Type 0} (rest cells : S → List Cell) (s : Span) (before after : S) → cells after ≡ cells before → rest after ≡ within s (cells before) → IsSought rest cells s after
-sought_now rest cells s before after same left = left ∙ ap (λ l. within s l) (sym same)
-
-sought : {S : Type 0} (rest cells : S → List Cell) (s : Span) (sources : List S) → AllByRecursion (IsSought rest cells s) sources → map rest sources ≡ map (λ l. within s l) (map cells sources)
-sought rest cells s [] h = refl
-sought rest cells s (x ∷ xs) h = ap (λ l. l ∷ map rest xs) h.0 ∙ ap (λ ls. within s (cells x) ∷ ls) (sought rest cells s xs h.1)
-
--- their sum is what the sum of the lists has in it
-pub sought_sum : {S : Type 0} (rest cells : S → List Cell) (s : Span) (sources : List S) → AllByRecursion (IsSought rest cells s) sources → sum_all (map rest sources) ≡ within s (sum_all (map cells sources))
-sought_sum rest cells s sources h = ap sum_all (sought rest cells s sources h) ∙ sum_within s (map cells sources)
-
--- and each is in order
-pub sought_in_order : {S : Type 0} (rest cells : S → List Cell) (s : Span) → ((x : S) → Ascends above (cells x)) → (sources : List S) → AllByRecursion (IsSought rest cells s) sources → AreInOrder (map rest sources)
-sought_in_order rest cells s up [] h = tt
-sought_in_order rest cells s up (x ∷ xs) h = (subst (Ascends above) (sym h.0) (Ascends-filter above above_exact (λ e. holds s e.key) (cells x) (up x)), sought_in_order rest cells s up xs h.1)
 
 -- ---- the first entry of a sum
 
@@ -84,7 +50,7 @@ at_place P (l ∷ ls) zero x xs h e = subst P e h.0
 at_place P (l ∷ ls) (suc k) x xs h e = at_place P ls k x xs h.1 e
 
 -- the sum begins with the least of the first entries
-pub least_first : (lists : List (List Cell)) (k : ℕ) (x : Cell) (xs : List Cell) → AreInOrder lists → get_or lists k [] ≡ x ∷ xs → IsLeastAt lists k
+least_first : (lists : List (List Cell)) (k : ℕ) (x : Cell) (xs : List Cell) → AreInOrder lists → get_or lists k [] ≡ x ∷ xs → IsLeastAt lists k
     → sum_all lists ≡ x ∷ sum_all (set lists k xs)
 unfolding sum_all
 least_first lists k x xs up e least =
@@ -138,6 +104,12 @@ some_at_least lists k least some = go (get_or lists k []) refl
     go [] e = let none = ap length (nothing_left lists k e least) in absurd (omega (arith, none, some))
     go (x ∷ xs) e = omega arith
 
+-- so there is such a list
+pub some_list : {S : Type 0} (rest : S → List Cell) (sources : List S) → 0 < length (sum_all (map rest sources)) → 0 < length sources
+unfolding sum_all sorted
+some_list rest [] some = some
+some_list rest (s ∷ ss) some = omega arith
+
 later_ascends : (list : List Cell) → Ascends above list → Ascends above (later list)
 unfolding Ascends
 later_ascends [] up = tt
@@ -153,12 +125,6 @@ later_in_order (x ∷ xs) (suc k) up l = (up.0, later_in_order xs k up.1 (omega 
 pub ok_list : {T E : Type 0} (r : Result T E) (now list : List Cell) (P : List Cell → Type 0) → now ≡ (if is_ok r then list else []) → P list → OnOk r (P now)
 ok_list (Ok t) now list P e h = subst P (sym e) h
 ok_list (Err f) now list P e h = tt
-
--- so there is such a list
-pub some_list : {S : Type 0} (rest : S → List Cell) (sources : List S) → 0 < length (sum_all (map rest sources)) → 0 < length sources
-unfolding sum_all sorted
-some_list rest [] some = some
-some_list rest (s ∷ ss) some = omega arith
 
 -- without a source there is no entry
 pub no_source : {S : Type 0} (rest : S → List Cell) (sources : List S) (k : ℕ) → (0 < length sources → k < length sources) → length sources ≤ k → None ≡ first (sum_all (map rest sources))

@@ -5,7 +5,7 @@ use Rattle.tablet_model.specs.Cuts.{within}
 use Rattle.tablet_model.specs.Sum.{sum_all}
 use Rattle.cell_key.specs.Ranges.{span_of}
 use Rattle.merge_iter.proofs.Elements.{all_set, all_more_set, all_taken, same_length, test_read}
-use Rattle.merge_iter.proofs.LeastTops.{IsSought, sought_now, sought_sum, sought_in_order}
+use Rattle.merge_iter.proofs.SoughtSums.{IsSought, sought_now, sought_sum, sought_in_order}
 use Rattle.merge_iter.proofs.sources.seek_all.Goals as goal
 
 pub returns-in_err-seek-clause-cells : goal.returns-in_err-seek-clause-cells

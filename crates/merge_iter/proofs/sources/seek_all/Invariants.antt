@@ -1,7 +1,7 @@
 use Rattle.std.proofs.Common.{◌≡◌, map, take}
 use Rattle.std.specs.List.{AllByRecursion}
 use Rattle.cell_key.specs.Ranges.{span_of}
-use Rattle.merge_iter.proofs.LeastTops.{IsSought}
+use Rattle.merge_iter.proofs.SoughtSums.{IsSought}
 use Rattle.merge_iter.proofs.sources.seek_all.Given as goal
 
 abbrev pub invariant-loop-source : goal.invariant-loop-source
