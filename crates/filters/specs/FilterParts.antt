@@ -1,5 +1,5 @@
 -- What a `FilterIter` has, by what its source has. All of this is this project's own.
-use Rattle.std.specs.Prelude.{◌||◌, List, Bool}
+use Rattle.std.specs.Prelude.{List, Bool}
 use Rattle.tablet_model.specs.Cell.{Cell}
 use Rattle.tablet_model.specs.Order.{above}
 use Rattle.tablet_model.specs.Sorted.{Ascends}

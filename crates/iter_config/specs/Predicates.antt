@@ -1,6 +1,6 @@
 -- What filters test, and the filters that they are. The tests of families, qualifiers, bytes and times are those of Accumulo's filters of
 -- these names; that of visibilities is this project's own.
-use Rattle.std.specs.Prelude.{ℕ, ℤ, Bool, true, false, not, ◌&&◌, ◌||◌, cond, List, [], ◌∷◌, Option, Some, None, length, take}
+use Rattle.std.specs.Prelude.{ℕ, Bool, true, false, not, ◌&&◌, ◌||◌, cond, List, [], ◌∷◌, Option, Some, None, length, take}
 use Rattle.std.specs.Str.{bytes_eq}
 use Rattle.std.specs.Ordering.{int_cmp, is_le, is_lt}
 use Rattle.tablet_model.specs.Cell.{Cell}

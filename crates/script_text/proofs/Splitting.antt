@@ -1,5 +1,5 @@
 -- A list that is split at the elements that pass a test, at the first of them.
-use Rattle.std.proofs.Common.{◌≡◌, ℕ, suc, ◌+◌, ◌-◌, ◌<◌, Bool, false, List, [], ◌∷◌, length, take, drop, slice_index, position, Some, None, All, sym, ◌∙◌, ap, arith, add-one, refl}
+use Rattle.std.proofs.Common.{◌≡◌, ℕ, suc, ◌+◌, ◌-◌, Bool, false, List, [], ◌∷◌, length, take, drop, position, Some, None, All, sym, ◌∙◌, ap, arith, add-one, refl}
 use Rattle.std.specs.List.{slice_split}
 use Rattle.std.proofs.lemmas.Grind.{common_steps}
 use Rattle.std.proofs.lemmas.List.{take_rest}

@@ -1,5 +1,5 @@
 -- What builders and files hold, by their fields.
-use Rattle.std.proofs.Common.{◌≡◌, ℕ, ◌+◌, ◌<◌, ◌≤◌, ◌%◌, eqb, Bool, true, false, List, [], ◌∷◌, ◌++◌, length, cond, Option, None, Result, Ok, Err, refl, sym, ap, subst, ◌∙◌, append_assoc, length-append, arith}
+use Rattle.std.proofs.Common.{◌≡◌, ℕ, ◌+◌, ◌<◌, ◌%◌, eqb, Bool, true, false, List, [], ◌∷◌, ◌++◌, length, cond, Option, None, Result, refl, sym, ap, subst, ◌∙◌, append_assoc, length-append, arith}
 use Rattle.std.specs.Bool.{then_some}
 use Rattle.std.specs.List.{last_or}
 use Rattle.std.specs.Option.{option_to_list}
@@ -9,9 +9,9 @@ use Rattle.std.proofs.lemmas.List.Concat.{flat_map-append, flat_map-cons}
 use Rattle.std.specs.Int.{w64, to_be_bytes}
 use Rattle.tablet_model.specs.Cell.{Cell}
 use Rattle.tablet_model.specs.Sorted.{Ascends}
-use Rattle.sorted_file.specs.Image.{magic, version, end_mark, end_magic, entry_bytes, entries_bytes, block_start, blocks_from, block_places, index_bytes, footer_bytes, image_of}
+use Rattle.sorted_file.specs.Image.{magic, version, end_mark, end_magic, entry_bytes, entries_bytes, block_start, blocks_from, block_places, index_bytes, image_of}
 use Rattle.sorted_file.specs.Lists.{is_out_of_order, IsFileEntry, IsFileList}
-use Rattle.sorted_file.specs.Reading.{Unread, entries_at, image_reading}
+use Rattle.sorted_file.specs.Reading.{entries_at}
 use Rattle.sorted_file.specs.Answers.{list_in}
 use Rattle.sorted_file.specs.BuilderParts.{entries_read, begun_list, built_list, IsBuilt}
 use Rattle.sorted_file.specs.FileParts.{file_list, IsFile}

@@ -1,14 +1,14 @@
 -- An entry that is written is read again, and one that is read was written so.
-use Rattle.std.proofs.Common.{◌≡◌, ℕ, ◌+◌, ◌^◌, ◌<◌, ◌≤◌, Bool, List, [], ◌++◌, length, Result, Ok, refl, sym, ap, subst, ◌∙◌, append_assoc, arith}
+use Rattle.std.proofs.Common.{◌≡◌, ℕ, ◌^◌, ◌<◌, ◌≤◌, Bool, List, [], ◌++◌, length, Result, Ok, refl, sym, ap, subst, append_assoc, arith}
 use Rattle.std.specs.Int.{w64, to_be_bytes, cast_signed, cast_unsigned}
 use Rattle.std.proofs.lemmas.Int.{to_z-of_z, of_z-to_z}
 use Rattle.tablet_model.specs.Cell.{CellKey, Cell}
-use Rattle.tablet_model.specs.Bounds.{KeyBounds, IsTime, IsEntry}
+use Rattle.tablet_model.specs.Bounds.{KeyBounds, IsTime}
 use Rattle.sorted_file.specs.Image.{part_bytes, flag_bytes, value_bytes, key_bytes, entry_bytes}
 use Rattle.sorted_file.specs.Lists.{longest_value, IsFileEntry}
 use Rattle.sorted_file.specs.Reading.{◌>>=◌, Unread, number_at, row_at, part_at, flag_at, value_at, key_at, entry_at}
 use Rattle.sorted_file.specs.declared.fault.Fault.{Fault}
-use Rattle.sorted_file.proofs.Fields.{bind_ok, ok_is, IsBytes, spot, Takes, Takes-then, Again, Again-then, wide64, number_again, number_take}
+use Rattle.sorted_file.proofs.Fields.{bind_ok, ok_is, IsBytes, Takes, Takes-then, Again, Again-then, wide64, number_again, number_take}
 use Rattle.sorted_file.proofs.Parts.{row_again, row_take, part_again, part_take, flag_again, flag_take, time_fits, time_below, time_is, value_again, value_take}
 
 -- ---- what is read behind each part of a key

@@ -1,10 +1,9 @@
 -- Worked images, and bytes that are no image.
-use Rattle.std.proofs.Common.{◌≡◌, ℕ, pos, false, List, [], ◌∷◌, ◌++◌, take, drop, Result, Ok, Err, codes, refl}
+use Rattle.std.proofs.Common.{◌≡◌, ℕ, pos, false, List, [], ◌∷◌, ◌++◌, take, Ok, codes, refl}
 use Rattle.tablet_model.specs.Cell.{Cell}
 use Rattle.sorted_file.specs.Image.{image_of, key_bytes, entry_bytes, blocks_from}
 use Rattle.sorted_file.specs.Reading.{fault, bytes_at, number_at, expected_at, head_at, row_at, part_at, flag_at, value_at, key_at, entry_at, next_entry_at, entries_at, index_at, footer_at, image_reading}
-use Rattle.sorted_file.specs.declared.fault.Fault.{Fault}
-use Rattle.sorted_file.specs.declared.fault.ImageCause.TheVariants.{Length, Magic, Version, Bound, Order, Index, Tail}
+use Rattle.sorted_file.specs.declared.fault.ImageCause.TheVariants.{Length, Order, Tail}
 
 -- the entry `ROW a:x: @1 =1`
 put : List ℕ → Cell

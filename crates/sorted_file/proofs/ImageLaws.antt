@@ -1,17 +1,17 @@
 -- The two laws of images: each is read as its list, and what is read is the image of what was read.
-use Rattle.std.proofs.Common.{◌≡◌, ℕ, ◌+◌, ◌<◌, ◌≤◌, Bool, true, false, cond, eqb, List, [], ◌∷◌, ◌++◌, length, None, Result, Ok, Err, refl, sym, ap, subst, ◌∙◌, append_assoc, length-append, arith, All, get_or, inl, inr}
+use Rattle.std.proofs.Common.{◌≡◌, ℕ, ◌+◌, ◌<◌, cond, eqb, List, [], ◌++◌, length, None, Result, Ok, sym, ap, subst, ◌∙◌, append_assoc, length-append, arith, All, inl, inr}
 use Rattle.std.specs.Int.{w64, to_be_bytes}
 use Rattle.std.proofs.lemmas.Bool.{eqb-true, cases_lt}
 use Rattle.std.proofs.lemmas.List.{append-nil, nil_from_length, get_or_past}
 use Rattle.tablet_model.specs.Cell.{Cell}
-use Rattle.sorted_file.specs.Image.{magic, version, end_mark, end_magic, entries_bytes, block_places, index_bytes, footer_bytes, image_of}
-use Rattle.sorted_file.specs.Lists.{IsFileEntry, IsFileList}
+use Rattle.sorted_file.specs.Image.{magic, version, end_mark, end_magic, entries_bytes, block_places, index_bytes, image_of}
+use Rattle.sorted_file.specs.Lists.{IsFileList}
 use Rattle.sorted_file.specs.Reading.{◌>>=◌, Unread, fault, expected_at, head_at, entries_at, index_at, footer_at, image_reading}
 use Rattle.sorted_file.specs.declared.fault.Fault.{Fault}
 use Rattle.sorted_file.specs.declared.fault.ImageCause.TheVariants.{Magic, Version, Tail}
 use Rattle.sorted_file.proofs.Fields.{bind_ok, then_ok, ok_is, IsBytes, spot, Takes, Takes-then, expected_again, expected_take}
 use Rattle.sorted_file.proofs.Orders.{ascends_follows, follows_ascends}
-use Rattle.sorted_file.proofs.Images.{length_list, AreRead, entries_again, entries_take, index_again, index_take}
+use Rattle.sorted_file.proofs.Images.{length_list, entries_again, entries_take, index_again, index_take}
 
 -- ---- what stands behind the entries
 

@@ -1,20 +1,19 @@
 -- An image is read as its list, and what is read is the image of what was read.
-use Rattle.std.proofs.Common.{◌≡◌, ℕ, zero, suc, ◌+◌, ◌^◌, ◌<◌, ◌≤◌, Bool, true, false, cond, eqb, List, [], ◌∷◌, ◌++◌, length, Option, Some, None, Result, Ok, Err, refl, sym, ap, subst, ◌∙◌, append_assoc, length-append, arith}
+use Rattle.std.proofs.Common.{◌≡◌, ℕ, zero, suc, ◌+◌, ◌^◌, ◌<◌, ◌≤◌, Bool, true, false, cond, eqb, List, [], ◌∷◌, ◌++◌, length, Option, Some, Result, Ok, refl, sym, ap, subst, ◌∙◌, append_assoc, length-append, arith}
 use Rattle.std.specs.Int.{w16, w64, to_be_bytes}
 use Rattle.std.specs.List.{AllByRecursion, flat_map}
 use Rattle.std.proofs.lemmas.Bool.{eqb-true}
 use Rattle.std.proofs.lemmas.Bool.Decides.{nat_tests}
-use Rattle.std.proofs.lemmas.List.{append-nil, nil_from_length}
 use Rattle.std.proofs.lemmas.List.Concat.{flat_map-cons}
 use Rattle.tablet_model.specs.Cell.{Cell}
-use Rattle.sorted_file.specs.Image.{magic, version, end_mark, end_magic, part_bytes, flag_bytes, value_bytes, key_bytes, entry_bytes, entries_bytes, block_places, index_bytes, footer_bytes, image_of}
-use Rattle.sorted_file.specs.Lists.{is_out_of_order, IsFileEntry, IsFileList}
-use Rattle.sorted_file.specs.Reading.{◌>>=◌, Unread, fault, number_at, expected_at, entry_at, next_entry_at, entries_at, index_at, footer_at, image_reading}
+use Rattle.sorted_file.specs.Image.{end_mark, part_bytes, flag_bytes, value_bytes, key_bytes, entry_bytes, entries_bytes, index_bytes}
+use Rattle.sorted_file.specs.Lists.{is_out_of_order, IsFileEntry}
+use Rattle.sorted_file.specs.Reading.{◌>>=◌, Unread, fault, number_at, expected_at, entry_at, next_entry_at, entries_at, index_at}
 use Rattle.sorted_file.specs.declared.fault.Fault.{Fault}
-use Rattle.sorted_file.specs.declared.fault.ImageCause.TheVariants.{Length, Magic, Version, Order, Index, Tail}
-use Rattle.sorted_file.proofs.Fields.{bind_ok, else_ok, then_ok, ok_is, IsBytes, spot, Takes, Takes-then, expected_again, expected_take, wide16, number_again, number_take}
+use Rattle.sorted_file.specs.declared.fault.ImageCause.TheVariants.{Order, Index}
+use Rattle.sorted_file.proofs.Fields.{bind_ok, else_ok, ok_is, IsBytes, spot, Takes, Takes-then, expected_again, expected_take, wide16, number_again, number_take}
 use Rattle.sorted_file.proofs.Entries.{entry_again, entry_take}
-use Rattle.sorted_file.proofs.Orders.{Follows, ascends_follows, follows_ascends}
+use Rattle.sorted_file.proofs.Orders.{Follows}
 
 -- ---- the front of an entry
 

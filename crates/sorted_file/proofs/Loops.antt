@@ -1,12 +1,11 @@
 -- Reading the index and the entries one after the other, as loops do.
-use Rattle.std.proofs.Common.{◌≡◌, ℕ, zero, suc, ◌+◌, ◌-◌, ◌<◌, ◌≤◌, Bool, true, false, cond, eqb, ltb, List, [], ◌∷◌, ◌++◌, length, get_or, take, drop, Option, Some, None, Result, Ok, Err, refl, sym, ap, ◌∙◌, append_assoc, length-append, arith, add-one, drop-cons}
-use Rattle.std.specs.Int.{w16, w64, to_be_bytes, from_be_bytes}
+use Rattle.std.proofs.Common.{◌≡◌, ℕ, zero, suc, ◌+◌, ◌-◌, ◌<◌, ◌≤◌, Bool, true, false, cond, eqb, List, [], ◌∷◌, ◌++◌, length, get_or, drop, Option, Some, Result, Ok, Err, refl, sym, ap, ◌∙◌, append_assoc, length-append, arith, add-one, drop-cons}
+use Rattle.std.specs.Int.{w16, w64, to_be_bytes}
 use Rattle.std.proofs.lemmas.List.{append-nil, drop_all}
 use Rattle.std.proofs.lemmas.Bool.{lt-ltb}
 use Rattle.tablet_model.specs.Cell.{Cell}
 use Rattle.sorted_file.specs.Image.{entry_bytes, block_start, blocks_from}
-use Rattle.sorted_file.specs.Answers.{counted}
-use Rattle.sorted_file.specs.Reading.{◌>>=◌, Unread, fault, behind, bytes_at, number_at, expected_at, next_entry_at, entries_at, index_at}
+use Rattle.sorted_file.specs.Reading.{◌>>=◌, Unread, fault, bytes_at, number_at, expected_at, next_entry_at, entries_at, index_at}
 use Rattle.sorted_file.specs.declared.fault.Fault.{Fault}
 use Rattle.sorted_file.specs.declared.fault.ImageCause.TheVariants.{Length, Index}
 use Rattle.sorted_file.proofs.Fields.{IsBytes}

@@ -1,5 +1,5 @@
 -- What the reading of a whole image comes to, part by part.
-use Rattle.std.proofs.Common.{◌≡◌, ℕ, ◌+◌, ◌<◌, ◌≤◌, List, [], ◌++◌, length, get_or, All, None, Result, Ok, Err, refl, sym, ap, subst, ◌∙◌, length-append, arith}
+use Rattle.std.proofs.Common.{◌≡◌, ℕ, ◌<◌, ◌≤◌, List, [], ◌++◌, length, All, None, Result, Ok, Err, refl, sym, ap, subst, ◌∙◌, length-append, arith}
 use Rattle.std.specs.Prelude.{IsErrAnd}
 use Rattle.std.proofs.lemmas.List.{get_or_default}
 use Rattle.std.specs.Result.{result_unwrap_or}
@@ -7,11 +7,11 @@ use Rattle.tablet_model.specs.Cell.{Cell}
 use Rattle.sorted_file.specs.Image.{magic, version, blocks_from, block_places, image_of}
 use Rattle.sorted_file.specs.Lists.{IsFileList}
 use Rattle.sorted_file.specs.Answers.{Opens, count_in, counted, list_in}
-use Rattle.sorted_file.specs.Reading.{◌>>=◌, Unread, head_at, entries_at, footer_at, image_reading}
+use Rattle.sorted_file.specs.Reading.{Unread, head_at, entries_at, footer_at, image_reading}
 use Rattle.sorted_file.specs.declared.fault.Fault.{Fault}
 use Rattle.sorted_file.specs.declared.fault.OpenError.{OpenError}
 use Rattle.sorted_file.specs.declared.fault.OpenError.TheVariants.{Image, NoMemory}
-use Rattle.sorted_file.proofs.Fields.{bind_ok, ok_is, IsBytes, spot, Takes}
+use Rattle.sorted_file.proofs.Fields.{bind_ok, ok_is, IsBytes, spot}
 use Rattle.sorted_file.specs.FileParts.{file_list, IsFile}
 use Rattle.sorted_file.specs.declared.file.SortedFile.TheInside.{Inside}
 use Rattle.sorted_file.proofs.Building.{is_file}

@@ -1,17 +1,16 @@
 -- A part of an entry that is written is read again, and one that is read was written so.
-use Rattle.std.proofs.Common.{◌≡◌, ℕ, ℤ, zero, suc, ◌+◌, ◌^◌, ◌<◌, ◌≤◌, Bool, true, false, ◌||◌, cond, eqb, ltb, List, [], ◌∷◌, ◌++◌, length, get_or, Result, Ok, Err, refl, sym, ap, subst, ◌∙◌, append_assoc, length-append, arith, FitsSigned}
-use Rattle.std.specs.Int.{Width, w16, w32, w64, byte_len, to_be_bytes, cast_signed, cast_unsigned}
+use Rattle.std.proofs.Common.{◌≡◌, ℕ, ℤ, ◌+◌, ◌^◌, ◌<◌, ◌≤◌, Bool, true, false, ◌||◌, cond, eqb, ltb, List, [], ◌∷◌, ◌++◌, length, get_or, Result, Ok, refl, sym, ap, subst, ◌∙◌, append_assoc, length-append, arith, FitsSigned}
+use Rattle.std.specs.Int.{Width, w16, w32, w64, to_be_bytes, cast_signed, cast_unsigned}
 use Rattle.std.proofs.lemmas.Bool.{ltb-false, le-ltb, eqb-true}
 use Rattle.std.proofs.lemmas.Bool.Decides.{nat_tests}
-use Rattle.std.proofs.lemmas.Int.{ints, to_z-of_z, of_z-to_z}
-use Rattle.tablet_model.specs.Cell.{CellKey, Cell}
-use Rattle.tablet_model.specs.Bounds.{KeyBounds, IsTime, IsEntry}
-use Rattle.sorted_file.specs.Image.{part_bytes, flag_bytes, value_bytes, key_bytes, entry_bytes}
-use Rattle.sorted_file.specs.Lists.{longest_value, IsFileEntry}
-use Rattle.sorted_file.specs.Reading.{◌>>=◌, Unread, fault, bytes_at, number_at, row_at, part_at, flag_at, value_at, key_at, entry_at}
+use Rattle.std.proofs.lemmas.Int.{ints}
+use Rattle.tablet_model.specs.Bounds.{IsTime}
+use Rattle.sorted_file.specs.Image.{part_bytes, flag_bytes, value_bytes}
+use Rattle.sorted_file.specs.Lists.{longest_value}
+use Rattle.sorted_file.specs.Reading.{◌>>=◌, Unread, fault, bytes_at, number_at, row_at, part_at, flag_at, value_at}
 use Rattle.sorted_file.specs.declared.fault.Fault.{Fault}
 use Rattle.sorted_file.specs.declared.fault.ImageCause.TheVariants.{Bound}
-use Rattle.sorted_file.proofs.Fields.{bind_ok, else_ok, ok_is, IsBytes, spot, Takes, Takes-then, Again, Again-then, bytes_again, bytes_take, IsWide, wide16, wide32, wide64, number_again, number_take}
+use Rattle.sorted_file.proofs.Fields.{bind_ok, else_ok, ok_is, IsBytes, spot, Takes, Takes-then, Again, bytes_again, bytes_take, IsWide, wide16, wide32, number_again, number_take}
 
 -- ---- a length and as many bytes, where some lengths are a fault
 

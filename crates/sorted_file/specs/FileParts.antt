@@ -1,5 +1,5 @@
 -- What a file has, by its fields (this project's own).
-use Rattle.std.specs.Prelude.{◌≡◌, ℕ, List, length}
+use Rattle.std.specs.Prelude.{◌≡◌, List, length}
 use Rattle.tablet_model.specs.Cell.{Cell}
 use Rattle.sorted_file.specs.Image.{image_of}
 use Rattle.sorted_file.specs.Lists.{IsFileList}

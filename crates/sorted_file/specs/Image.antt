@@ -1,6 +1,6 @@
 -- The image of a sorted file, version 1: its bytes. All numbers are big-endian. The format is this project's own; that a sorted file
 -- has blocks of entries and an index of them is Accumulo's.
-use Rattle.std.specs.Prelude.{ℕ, zero, ◌+◌, ◌%◌, Bool, ◌==◌, if◌then◌else◌, List, [], ◌∷◌, ◌++◌, length, take, codes}
+use Rattle.std.specs.Prelude.{ℕ, ◌+◌, ◌%◌, Bool, ◌==◌, if◌then◌else◌, List, [], ◌∷◌, ◌++◌, length, take, codes}
 use Rattle.std.specs.Int.{w16, w32, w64, to_be_bytes, cast_unsigned}
 use Rattle.std.specs.List.{flat_map}
 use Rattle.tablet_model.specs.Cell.{CellKey, Cell}

@@ -1,5 +1,5 @@
 -- Which lists have an image that is read. The bounds are this project's own.
-use Rattle.std.specs.Prelude.{◌≡◌, ℕ, ◌≤◌, Bool, false, if◌then◌else◌, List, length, Option, Some, None}
+use Rattle.std.specs.Prelude.{ℕ, ◌≤◌, Bool, false, if◌then◌else◌, List, length, Option, Some, None}
 use Rattle.std.specs.List.{AllByRecursion, last_or}
 use Rattle.tablet_model.specs.Cell.{Cell}
 use Rattle.tablet_model.specs.Bounds.{IsEntry}

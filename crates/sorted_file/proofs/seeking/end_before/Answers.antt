@@ -1,4 +1,4 @@
-use Rattle.std.proofs.Common.{◌≡◌, ℕ, ◌+◌, ◌≤◌, length, drop, sym, ap, subst, ◌∙◌, arith}
+use Rattle.std.proofs.Common.{◌+◌, ◌≤◌, length, sym, ap, subst, ◌∙◌, arith}
 use Rattle.tablet_model.specs.Cuts.{is_before}
 use Rattle.cell_key.specs.Ranges.{cut_of}
 use Rattle.cell_key.specs.Views.{cell_of}

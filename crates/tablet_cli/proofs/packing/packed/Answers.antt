@@ -1,17 +1,15 @@
-use Rattle.std.proofs.Common.{◌≡◌, List, IfOk, map, true, false, ap, sym, subst, ◌∙◌}
-use Rattle.std.specs.List.{AllByRecursion, list_any}
+use Rattle.std.proofs.Common.{◌≡◌, List, IfOk, map, ap, sym, subst, ◌∙◌}
+use Rattle.std.specs.List.{AllByRecursion}
 use Rattle.tablet_model.specs.Cell.{Cell}
 use Rattle.tablet_model.specs.History.{history_entries}
 use Rattle.tablet_model.specs.Markers.{live}
 use Rattle.tablet_model.specs.Reading.{AreUnmarkedRead}
-use Rattle.tablet_model.specs.Rules.{AreStorable}
 use Rattle.cell_key.specs.Mutations.{row_change_of}
 use Rattle.iter_config.specs.RulesOf.{rules_of}
 use Rattle.iter_config.specs.Stages.{stages_of}
-use Rattle.iter_contract.specs.VecRest.{vec_cells}
 use Rattle.iter_stack.specs.Usages.{usage_cells}
 use Rattle.iter_stack.specs.declared.usage.Usage.TheVariants.{Minc, MajcFull}
-use Rattle.tablet_cli.specs.Packing.{HasShortValue, is_minor_alone}
+use Rattle.tablet_cli.specs.Packing.{HasShortValue}
 use Rattle.tablet_cli.proofs.Packs.{live_unmarked_read, major_packed, minor_packed, packed_short}
 use Rattle.tablet_cli.proofs.Scans.{storable_history, storable_read}
 use Rattle.tablet_cli.proofs.packing.packed.Goals as goal

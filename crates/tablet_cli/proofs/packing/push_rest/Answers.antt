@@ -1,4 +1,4 @@
-use Rattle.std.proofs.Common.{◌≡◌, ap, sym, subst, ◌∙◌, option_map}
+use Rattle.std.proofs.Common.{ap, sym, subst, ◌∙◌, option_map}
 use Rattle.tablet_model.specs.Order.{above}
 use Rattle.tablet_model.specs.Sorted.{Ascends}
 use Rattle.cell_key.specs.Views.{cell_of}

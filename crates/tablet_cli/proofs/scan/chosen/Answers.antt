@@ -1,5 +1,4 @@
-use Rattle.std.proofs.Common.{◌∙◌, ap, sym}
-use Rattle.tablet_model.specs.Families.{in_families}
+use Rattle.std.proofs.Common.{◌∙◌}
 use Rattle.tablet_cli.proofs.Scans.{chosen_more}
 use Rattle.tablet_cli.proofs.scan.chosen.Goals as goal
 

@@ -1,4 +1,4 @@
-use Rattle.std.proofs.Common.{◌≡◌, ◌++◌, [], ◌∷◌, None, length, map, option_map, sym, subst, ap, ◌∙◌}
+use Rattle.std.proofs.Common.{◌≡◌, None, length, map, option_map, sym, subst, ap, ◌∙◌}
 use Rattle.tablet_model.specs.Ingest.{IsHistory, ingest}
 use Rattle.cell_key.specs.Mutations.{row_change_of}
 use Rattle.ingest.specs.Refusals.{refusal_of}
