@@ -7,6 +7,7 @@ mod updates;
 
 pub use mem_cursor::MemCursor;
 pub use mem_map::MemMap;
+pub use updates::append_mutation;
 
 #[cfg(test)]
 mod tests;

@@ -8,7 +8,7 @@ ghost use Rattle.cell_key.specs.Mutations.{row_change_of};
 ghost use Rattle.memory_map.specs.CursorParts.{mem_cells, mem_rest};
 
 use crate::mem_cursor::MemCursor;
-use crate::updates::push_mutation;
+use crate::updates::append_mutation;
 use cell_key::{Entries, Mutation, NoMemory};
 use std::alloc::Global;
 use std::marker::Model;
@@ -51,7 +51,7 @@ impl MemMap {
         ensures { IfOk result (λ map. map ≡ sum_of self.now (entries_of time (row_change_of mutation.now))) }
     {
         let mut entries = self.entries.copy(alloc)?;
-        push_mutation(alloc, &mut entries, mutation, time)?;
+        append_mutation(alloc, &mut entries, mutation, time)?;
         MemMap::sorted(alloc, entries)
     }
 

@@ -9,8 +9,8 @@ ghost use Rattle.cell_key.specs.Views.{cell_of};
 use cell_key::{Entries, Entry, EntryRef, KeyRef, Mutation, NoMemory, Update};
 use std::alloc::Global;
 
-/// Puts the entries of a mutation at the end.
-pub(crate) fn push_mutation(
+/// Puts the entries of a mutation at a time at the end of a list, unsorted. Without memory some of them may stand there.
+pub fn append_mutation(
     alloc: Global,
     entries: &mut Entries,
     mutation: &Mutation,

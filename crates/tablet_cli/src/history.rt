@@ -14,6 +14,7 @@ ghost use Rattle.tablet_cli.specs.Replay.{mutation_after, refused_by};
 use cell_key::{Entries, Entry, EntryRef, KeyRef, Mutation, Mutations, NoMemory, Update};
 use ingest::{Refused, check};
 use iter_config::Config;
+use memory_map::append_mutation;
 use std::alloc::Global;
 use std::marker::Model;
 
@@ -96,48 +97,15 @@ fn numbered_entries(alloc: Global, log: &Mutations) -> Result<Entries, NoMemory>
 {
     let mut entries = Entries::new(alloc);
     for (k, mutation) in log.as_slice().iter().enumerate() {
-        push_mutation(alloc, &mut entries, (k + 1) as u64, mutation)?;
+        append_mutation(alloc, &mut entries, mutation, time_of(k + 1))?;
     }
     Ok(entries)
 }
 
-/// Puts the entries of a mutation at the end.
-fn push_mutation(
-    alloc: Global,
-    entries: &mut Entries,
-    time: u64,
-    mutation: &Mutation,
-) -> Result<(), NoMemory>
-    requires bounds { IsInBounds mutation.now }
-    requires time { time < 2 ^ 63 }
-    ensures { OnOk result (entries.new ≡ entries.old ++ entries_of (pos time) (row_change_of mutation.now)) }
+/// The time of the mutation of this number (Accumulo's logical time).
+fn time_of(number: usize) -> i64
+    requires { number < 2 ^ 63 }
+    ensures { result ≡ pos number }
 {
-    for update in mutation.updates.as_slice() {
-        let entry = Entry::of(alloc, entry_of(mutation.row.bytes(), time, update))?;
-        entries.push(entry)?;
-    }
-    Ok(())
-}
-
-/// The entry of an update at a time. A delete gives a marker, whose value is empty.
-fn entry_of<'a>(row: &'a [u8], time: u64, update: &'a Update) -> EntryRef<'a>
-    requires bounds { KeyBounds row.now update.now.family update.now.qualifier update.now.visibility }
-    requires time { time < 2 ^ 63 }
-    ensures { cell_of result ≡ entry_of row.now (pos time) (change_of update.now) }
-{
-    let (value, deleted): (&[u8], bool) = match &update.value {
-        Some(value) => (value.bytes(), false),
-        None => (&[], true),
-    };
-    EntryRef {
-        key: KeyRef {
-            row,
-            family: update.family.bytes(),
-            qualifier: update.qualifier.bytes(),
-            visibility: update.visibility.bytes(),
-            time: time as i64,
-            deleted,
-        },
-        value,
-    }
+    number as i64
 }

@@ -3,7 +3,7 @@ use Rattle.std.proofs.Math.Facts.{to_z-of_z}
 use Rattle.tablet_model.specs.History.{entry_of}
 use Rattle.cell_key.specs.Mutations.{change_of}
 use Rattle.memory_map.proofs.UpdateEntries.{bounds_here, one_more}
-use Rattle.memory_map.proofs.updates.push_mutation.Goals as goal
+use Rattle.memory_map.proofs.updates.append_mutation.Goals as goal
 
 pub entry_of-requires : goal.entry_of-requires
 entry_of-requires c =

@@ -1,7 +1,7 @@
 use Rattle.std.proofs.Common.{◌≡◌, ◌++◌, map, take}
 use Rattle.tablet_model.specs.History.{entry_of}
 use Rattle.cell_key.specs.Mutations.{change_of}
-use Rattle.memory_map.proofs.updates.push_mutation.Given as goal
+use Rattle.memory_map.proofs.updates.append_mutation.Given as goal
 
 abbrev pub invariant-loop-update : goal.invariant-loop-update
 invariant-loop-update l =

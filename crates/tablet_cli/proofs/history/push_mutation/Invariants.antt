@@ -1,8 +1,0 @@
-use Rattle.std.proofs.Common.{◌≡◌, ◌++◌, map, pos, take}
-use Rattle.tablet_model.specs.History.{entry_of}
-use Rattle.cell_key.specs.Mutations.{change_of}
-use Rattle.tablet_cli.proofs.history.push_mutation.Given as goal
-
-abbrev pub invariant-loop-update : goal.invariant-loop-update
-invariant-loop-update l =
-    l.entries ≡ l.fn.entries ++ map (entry_of l.mutation.row (pos l.time)) (map change_of (take l.update-index l.update-items))
