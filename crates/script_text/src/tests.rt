@@ -29,16 +29,23 @@ fn append_part(text: &mut ByteText, part: &ByteText) -> Result<(), NoMemory> {
     text.append(b"]")
 }
 
+/// The word for a line that is no mutation.
+fn word_of(line: &Line) -> &'static str {
+    match line {
+        Line::Nothing => "nothing",
+        Line::Scan { families, .. } if families.has(b"b") => "scan",
+        Line::Scan { .. } => "scan without b",
+        Line::Open { isolated: true, .. } => "open isolated",
+        Line::Compact { files, .. } if files.len() == 2 => "compact two",
+        _ => "other",
+    }
+}
+
 /// What a line was read as.
 fn reading(alloc: Global, line: &str) -> Result<ByteText, NoMemory> {
     match parse_line(alloc, line.as_bytes()) {
-        Ok(Line::Nothing) => ByteText::of(alloc, b"nothing"),
         Ok(Line::Mutate(mutation)) => shown(alloc, &mutation),
-        Ok(Line::Scan { families, .. }) if families.has(b"b") => ByteText::of(alloc, b"scan"),
-        Ok(Line::Scan { .. }) => ByteText::of(alloc, b"scan without b"),
-        Ok(Line::Open { isolated, .. }) if isolated => ByteText::of(alloc, b"open isolated"),
-        Ok(Line::Compact { files, .. }) if files.len() == 2 => ByteText::of(alloc, b"compact two"),
-        Ok(_) => ByteText::of(alloc, b"other"),
+        Ok(line) => ByteText::of(alloc, word_of(&line).as_bytes()),
         Err(LineError::Syntax) => ByteText::of(alloc, b"syntax"),
         Err(LineError::NoMemory) => Err(NoMemory),
     }
