@@ -1,5 +1,5 @@
 -- A number put at the place where a search did not find it.
-use Rattle.std.proofs.Common.{◌≡◌, ℕ, zero, suc, ◌<◌, ◌≤◌, Bool, true, false, cond, List, [], ◌∷◌, length, refl, sym, ap, ◌∙◌, arith, nat_lt, eqb, slice_index_or, Result, Ok, Err}
+use Rattle.std.proofs.Common.{◌≡◌, ℕ, zero, suc, ◌<◌, ◌≤◌, Bool, true, false, cond, List, [], ◌∷◌, ◌++◌, length, refl, sym, ap, ◌∙◌, arith, nat_lt, eqb, slice_index_or, Result, Ok, Err}
 use Rattle.std.specs.List.{AllByRecursion, insert}
 use Rattle.std.specs.List.Sorted.{IsBinarySearchResult}
 use Rattle.std.specs.Ordering.{nat_cmp}
@@ -89,3 +89,12 @@ pub searched_with : (xs : List ℕ) (x : ℕ) (r : Result ℕ ℕ) → AreAscend
     → MatchResult r (λ i. xs ≡ with_number x xs) (λ i. insert xs i x ≡ with_number x xs)
 searched_with xs x (Ok i) up h = let at = searched xs x (Ok i) h (rising xs up) in present xs i x at.0 at.1 up
 searched_with xs x (Err i) up h = let at = searched xs x (Err i) h (rising xs up) in absent xs i x at.0 at.1 at.2
+
+-- a number above all others stands at the end
+pub ascends_push : (xs : List ℕ) (id : ℕ) → AreAscending xs → AllByRecursion (λ i. i < id) xs → AreAscending (xs ++ id ∷ [])
+ascends_push [] id up below = (tt, tt)
+ascends_push (x ∷ xs) id up below = (before xs up.0, ascends_push xs id up.1 below.1)
+  where
+    before : (ys : List ℕ) → AllByRecursion (λ j. x < j) ys → AllByRecursion (λ j. x < j) (ys ++ id ∷ [])
+    before [] all = (below.0, tt)
+    before (y ∷ ys) all = (all.0, before ys all.1)

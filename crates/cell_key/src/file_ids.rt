@@ -1,4 +1,5 @@
-ghost use Rattle.std.specs.Prelude.{◌≡◌, ◌<◌, [], Some, length, slice_get, OnOk};
+ghost use Rattle.std.specs.Prelude.{◌≡◌, ◌<◌, [], ◌∷◌, ◌++◌, Some, length, slice_get, is_ok, if◌then◌else◌, IfOk, OnOk};
+ghost use Rattle.std.specs.List.{AllByRecursion};
 ghost use Rattle.cell_key.specs.FileNumbers.{has_number, with_number};
 
 use crate::no_memory::NoMemory;
@@ -40,6 +41,23 @@ impl FileIds {
             self.ids.insert(place, id)?;
         }
         Ok(())
+    }
+
+    /// Puts a number that is above all others at the end; without memory the list stays as it was.
+    pub fn push(&mut self, id: u64) -> Result<(), NoMemory>
+        requires { AllByRecursion (λ i. i < id) self.old }
+        ensures { self.new ≡ (if is_ok result then self.old ++ id ∷ [] else self.old) }
+    {
+        self.ids.push(id)?;
+        Ok(())
+    }
+
+    /// Equal numbers.
+    pub fn copy(&self, alloc: Global) -> Result<FileIds, NoMemory>
+        ensures { IfOk result (λ ids. ids ≡ self.now) }
+    {
+        let ids = Vec::from_slice(alloc, &self.ids)?;
+        Ok(FileIds { ids })
     }
 
     /// How many numbers there are.

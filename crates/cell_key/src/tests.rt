@@ -217,6 +217,51 @@ fn file_numbers_ascend(rt: HostRuntime) -> Result<(), Fail> {
     assert_eq!(rt; ids.as_slice(), [2, 5, 7, u64::MAX].as_slice());
     assert_eq!(rt; (ids.len(), ids.get(1)), (4, 5));
     assert!(rt; ids.has(7) && !ids.has(6));
+    let mut few = FileIds::new(rt.alloc());
+    few.push(3)?;
+    few.push(8)?;
+    assert_eq!(rt; few.copy(rt.alloc())?.as_slice(), [3, 8].as_slice());
+    Ok(())
+}
+
+fn put(alloc: Global, qualifier: &[u8], value: Option<&[u8]>) -> Result<Update, NoMemory> {
+    let value = match value {
+        None => None,
+        Some(value) => Some(ByteText::of(alloc, value)?),
+    };
+    Ok(Update {
+        family: ByteText::of(alloc, b"f")?,
+        qualifier: ByteText::of(alloc, qualifier)?,
+        visibility: ByteText::new(alloc),
+        value,
+    })
+}
+
+fn mutation(
+    alloc: Global,
+    row: &[u8],
+    qualifier: &[u8],
+    value: Option<&[u8]>,
+) -> Result<Mutation, NoMemory> {
+    let mut updates = Updates::new(alloc);
+    updates.push(put(alloc, b"first", Some(b"1"))?)?;
+    updates.push(put(alloc, qualifier, value)?)?;
+    Ok(Mutation {
+        row: ByteText::of(alloc, row)?,
+        updates,
+    })
+}
+
+#[test]
+fn mutations_are_told_apart(rt: HostRuntime) -> Result<(), Fail> {
+    let own = mutation(rt.alloc(), b"r", b"q", Some(b"2"))?;
+    assert!(rt; own.same(&own.copy(rt.alloc())?));
+    assert!(rt; !own.same(&mutation(rt.alloc(), b"s", b"q", Some(b"2"))?));
+    assert!(rt; !own.same(&mutation(rt.alloc(), b"r", b"p", Some(b"2"))?));
+    assert!(rt; !own.same(&mutation(rt.alloc(), b"r", b"q", Some(b"3"))?));
+    assert!(rt; !own.same(&mutation(rt.alloc(), b"r", b"q", None)?));
+    let delete = mutation(rt.alloc(), b"r", b"q", None)?;
+    assert!(rt; delete.same(&delete.copy(rt.alloc())?));
     Ok(())
 }
 
