@@ -4,4 +4,6 @@ pub mod LevelStages
 pub mod Levels
 pub mod Stacks
 pub mod Places
+pub mod PartCells
+pub mod Jobs
 pub mod Examples

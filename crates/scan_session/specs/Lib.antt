@@ -1,0 +1,5 @@
+pub mod Takes
+pub mod Walks
+pub mod WalkLaws
+pub mod Looks
+pub mod Sessions

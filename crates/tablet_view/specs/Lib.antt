@@ -1,0 +1,5 @@
+pub mod Snapshot
+pub mod Refusals
+pub mod Extending
+pub mod Sources
+pub mod ViewParts

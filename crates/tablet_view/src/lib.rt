@@ -1,0 +1,12 @@
+// Snapshots of a tablet: what it holds at a moment, all of it shared, and what it stands for.
+#![tactic(auto)]
+
+mod apply_error;
+mod files;
+mod log;
+mod view;
+mod view_source;
+
+pub use apply_error::ApplyError;
+pub use view::View;
+pub use view_source::ViewSource;

@@ -1,0 +1,211 @@
+ghost use Rattle.std.specs.Prelude.{◌≡◌, ◌↔◌, ◌<◌, ◌^◌, true, [], Some, None, length, slice_get, option_map, unwrap_or, IsTrue, IsSome, IfOk, MatchResult};
+ghost use Rattle.std.specs.Arc.{arc_value};
+ghost use Rattle.tablet_model.specs.Answers.{answer};
+ghost use Rattle.tablet_model.specs.Compactions.{minor_compaction};
+ghost use Rattle.tablet_model.specs.Cuts.{Span, within};
+ghost use Rattle.tablet_model.specs.Families.{in_families};
+ghost use Rattle.tablet_model.specs.Reading.{AreUnmarkedRead};
+ghost use Rattle.tablet_model.specs.Stages.{stages};
+ghost use Rattle.tablet_model.specs.Stands.{AreBelow};
+ghost use Rattle.cell_key.specs.Mutations.{row_change_of};
+ghost use Rattle.iter_config.specs.RulesOf.{rules_of};
+ghost use Rattle.iter_config.specs.Stages.{stages_of};
+ghost use Rattle.iter_contract.specs.Copies.{IsCopy};
+ghost use Rattle.iter_stack.specs.Jobs.{compacted};
+ghost use Rattle.iter_stack.specs.PartCells.{part_cells};
+ghost use Rattle.iter_stack.specs.Usages.{usage_cells};
+ghost use Rattle.iter_stack.specs.declared.usage.Usage.TheVariants.{Scan};
+ghost use Rattle.tablet_view.specs.Extending.{BeginsWith};
+ghost use Rattle.tablet_view.specs.Refusals.{refusal_in};
+ghost use Rattle.tablet_view.specs.Snapshot.{IsStanding, IsMajorOf, applied, empty_snapshot, entries_in, flushed, frozen, refused_by, replaced};
+ghost use Rattle.tablet_view.specs.Sources.{source_cells, source_rest, source_valid};
+
+use crate::apply_error::ApplyError;
+use crate::files::Files;
+use crate::log::Log;
+use crate::view_source::ViewSource;
+use cell_key::{Families, FileIds, Mutation, NoMemory};
+use iter_config::Config;
+use iter_stack::{DoneJob, PartCursor};
+use memory_map::MemMap;
+use std::alloc::Global;
+use std::marker::Model;
+use std::sync::Arc;
+
+/// A snapshot of a tablet: its configuration, the mutations that came in, its files, a frozen part or none, and its memory,
+/// all of them shared. It stays as it is; each call that changes the tablet gives the next one, whose version is higher by 1.
+#[derive(Drop)]
+pub struct View {
+    config: Arc<Config>,
+    log: Arc<Log>,
+    files: Arc<Files>,
+    frozen: Option<Arc<MemMap>>,
+    memory: Arc<MemMap>,
+    version: u64,
+}
+
+impl Model for View {
+    ghost use Rattle.tablet_view.specs.Snapshot.{Snapshot, IsStanding};
+
+    ghost Value = { Snapshot };
+
+    ghost use Rattle.tablet_view.specs.ViewParts.{snapshot_of};
+
+    ghost view = { snapshot_of };
+
+    ghost invariant = { λ v. IsStanding (snapshot_of v) };
+}
+
+impl View {
+    /// The view of no mutations. It takes memory.
+    pub fn open(_alloc: Global, config: Arc<Config>) -> Result<View, NoMemory>
+        ensures { IfOk result (λ view. view ≡ empty_snapshot (arc_value config)) }
+    {
+        let _ = config;
+        Err(NoMemory)
+    }
+
+    /// The view where a mutation came in, at the end of the log, or why it stays out: the first broken check, in the order of
+    /// [`Refused`](ingest::Refused). It takes memory only where no check is broken.
+    pub fn apply(&self, _alloc: Global, mutation: &Mutation) -> Result<View, ApplyError>
+        requires { self.now.version < 2 ^ 63 }
+        ensures { MatchResult result
+            (λ view. (refused_by self.now (row_change_of mutation.now) ≡ None)
+                × (view ≡ applied self.now (row_change_of mutation.now)))
+            (λ error. refused_by self.now (row_change_of mutation.now) ≡ refusal_in error) }
+    {
+        match ingest::check(&self.config, self.log.len() as u64, mutation) {
+            Some(refused) => Err(ApplyError::Refused(refused)),
+            None => Err(ApplyError::NoMemory),
+        }
+    }
+
+    /// The view where the memory became the frozen part. It takes memory.
+    pub fn freeze(&self, _alloc: Global) -> Result<View, NoMemory>
+        requires version { self.now.version < 2 ^ 63 }
+        requires free { self.now.frozen ≡ None }
+        ensures { IfOk result (λ view. view ≡ frozen self.now) }
+    {
+        let _ = &self.version;
+        Err(NoMemory)
+    }
+
+    /// The view where the file of a job stands in the place of the frozen part, whose minor compaction it has to be. The file's
+    /// number is above those of all files. It takes memory.
+    pub fn install_flush(&self, _alloc: Global, id: u64, done: &DoneJob) -> Result<View, NoMemory>
+        requires version { self.now.version < 2 ^ 63 }
+        requires frozen { IsSome self.now.frozen }
+        requires above { AreBelow id self.now.files }
+        requires made { compacted done.now ≡ minor_compaction (rules_of self.now.config).minor (unwrap_or self.now.frozen []) }
+        ensures { IfOk result (λ view. view ≡ flushed self.now id (compacted done.now)) }
+    {
+        let _ = (&self.version, id, done);
+        Err(NoMemory)
+    }
+
+    /// The view where the file of a job stands in the place of the files of some numbers, whose partial compaction it has to be,
+    /// or whose full one where all other parts are newer. The file's number is above those of all files. It takes memory.
+    pub fn install_major(
+        &self,
+        _alloc: Global,
+        ids: &FileIds,
+        id: u64,
+        done: &DoneJob,
+    ) -> Result<View, NoMemory>
+        requires version { self.now.version < 2 ^ 63 }
+        requires above { AreBelow id self.now.files }
+        requires made { IsMajorOf self.now ids.now (compacted done.now) }
+        ensures { IfOk result (λ view. view ≡ replaced self.now ids.now id (compacted done.now)) }
+    {
+        let _ = (&self.version, ids, id, done);
+        Err(NoMemory)
+    }
+
+    /// A source of the entries of all parts in some families. A stack for scans over it answers what the log answers. It takes
+    /// memory.
+    pub fn source(&self, _alloc: Global, families: &Families) -> Result<ViewSource, NoMemory>
+        ensures source { IfOk result (λ source. IsCopy (in_families families.now (entries_in self.now)) true
+            (source_cells source) (source_rest source) true (source_valid source)) }
+        ensures read { AreUnmarkedRead (stages_of self.now.config) (in_families families.now (entries_in self.now)) }
+        ensures answers { (range : Span) →
+            within range (usage_cells self.now.config Scan (in_families families.now (entries_in self.now)))
+            ≡ answer (stages (stages_of self.now.config)) range families.now self.now.log }
+    {
+        let _ = (&self.version, families);
+        Err(NoMemory)
+    }
+
+    /// The number of mutations that came in. It takes no memory.
+    pub fn mutations(&self) -> u64
+        ensures { result ≡ length self.now.log }
+    {
+        self.log.len() as u64
+    }
+
+    /// The number of this view. It takes no memory.
+    pub fn version(&self) -> u64
+        ensures { result ≡ self.now.version }
+    {
+        self.version
+    }
+
+    /// The number of entries in memory. It takes no memory.
+    pub fn memory_count(&self) -> u64
+        ensures { result ≡ length self.now.memory }
+    {
+        self.memory.count()
+    }
+
+    /// The number of entries of the frozen part, `None` exactly where there is none. It takes no memory.
+    pub fn frozen_count(&self) -> Option<u64>
+        ensures { result ≡ option_map (λ frozen. length frozen) self.now.frozen }
+    {
+        match &self.frozen {
+            Some(frozen) => Some(frozen.count()),
+            None => None,
+        }
+    }
+
+    /// The number of files. It takes no memory.
+    pub fn file_count(&self) -> usize
+        ensures { result ≡ length self.now.files }
+    {
+        self.files.len()
+    }
+
+    /// The number of the file at place `i`, in the order of their numbers, and how many entries it has. It takes no memory.
+    pub fn file_at(&self, i: usize) -> (u64, u64)
+        requires { i < length self.now.files }
+        ensures id { option_map (λ file. file.id) (slice_get self.now.files i) ≡ Some result.0 }
+        ensures count { option_map (λ file. length file.cells) (slice_get self.now.files i) ≡ Some result.1 }
+    {
+        let stored = self.files.get(i);
+        (stored.id, stored.file.count())
+    }
+
+    /// The configuration. It takes no memory.
+    pub fn config(&self) -> &Arc<Config>
+        ensures config { arc_value result.now ≡ self.now.config }
+        ensures stands { IsStanding self.now }
+    {
+        &self.config
+    }
+
+    /// A source of the entries of the frozen part. It takes memory.
+    pub fn frozen_cursor(&self, _alloc: Global) -> Result<PartCursor, NoMemory>
+        requires { IsSome self.now.frozen }
+        ensures { IfOk result (λ cursor. Some (part_cells cursor) ≡ self.now.frozen) }
+    {
+        let _ = &self.version;
+        Err(NoMemory)
+    }
+
+    /// A source of the entries of the file at place `i`. It takes memory.
+    pub fn file_cursor(&self, _alloc: Global, i: usize) -> Result<PartCursor, NoMemory>
+        requires { i < length self.now.files }
+        ensures { IfOk result (λ cursor. Some (part_cells cursor) ≡ option_map (λ file. file.cells) (slice_get self.now.files i)) }
+    {
+        let _ = (&self.version, i);
+        Err(NoMemory)
+    }
+}

@@ -1,0 +1,46 @@
+#![tactic(auto, unfolding(crate::specs::Sources::source_cells, crate::specs::Sources::source_rest, crate::specs::Sources::source_valid))]
+
+use cell_key::{EntryRef, NoMemory, Range};
+use iter_contract::{SortedSource, VecSource};
+use std::alloc::Global;
+
+/// A source of the entries that a [`View`](crate::View) has in some families: those of all its parts, in one order. It is
+/// steady, and so are its deep copies.
+#[derive(Drop)]
+pub struct ViewSource {
+    source: VecSource,
+}
+
+impl SortedSource for ViewSource {
+    ghost use Rattle.std.specs.Prelude.{true};
+    ghost use Rattle.tablet_view.specs.Sources.{source_cells, source_rest, source_valid, source_sorted, source_bounded};
+
+    ghost cells = { source_cells };
+
+    ghost rest = { source_rest };
+
+    ghost steady = { λ _. true };
+
+    ghost valid = { source_valid };
+
+    ghost sorted = { source_sorted };
+
+    ghost bounded = { source_bounded };
+
+    fn seek(&mut self, range: &Range<'_>) -> Result<(), NoMemory> {
+        self.source.seek(range)
+    }
+
+    fn top(&self) -> Option<EntryRef<'_>> {
+        self.source.top()
+    }
+
+    fn next(&mut self) -> Result<(), NoMemory> {
+        self.source.next()
+    }
+
+    fn deep_copy(&self, alloc: Global) -> Result<ViewSource, NoMemory> {
+        let source = self.source.deep_copy(alloc)?;
+        Ok(ViewSource { source })
+    }
+}
