@@ -4,7 +4,7 @@ use Rattle.std.specs.Fmt.{digits}
 use Rattle.tablet_model.specs.Cell.{Cell}
 use Rattle.cell_key.specs.declared.key.Part.TheVariants.{Updates}
 use Rattle.cell_key.specs.declared.mutation.Update.{Update}
-use Rattle.script_text.specs.Answers.{accepted_line, entry_line, refusal_line, scan_text}
+use Rattle.script_text.specs.Answers.{accepted_line, entry_line, refusal_line, scan_text, found_text}
 use Rattle.script_text.specs.Grammar.{compact_of, delete_of, fetch_of, line_of, mutation_of, open_of, put_of, reading_of, scan_of, session_line_of, store_line_of, update_of}
 use Rattle.script_text.specs.Numbers.{number_of}
 use Rattle.script_text.specs.Scans.{all_keys, bracketed, families_of, optional_row, range_of, rows_between, short_text}
@@ -173,11 +173,11 @@ unfolding entry_line entry digits
 marker = refl
 
 scan_of_none : scan_text 0 [] ≡ codes "end 0\n"
-unfolding scan_text digits
+unfolding found_text digits
 scan_of_none = refl
 
 scan_of_one : scan_text 12 (entry (codes "r1") (pos 1) false (codes "1") ∷ []) ≡ codes "at 12\nr1 a:x: @1 =1\nend 12\n"
-unfolding scan_text entry_line entry digits
+unfolding found_text entry_line entry digits
 scan_of_one = refl
 
 accepted : accepted_line 524288 ≡ codes "m 524288\n"

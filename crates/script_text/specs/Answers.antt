@@ -44,10 +44,14 @@ end_line n = number_line (codes "end") n
 abbrev pub count_line : ℕ → List ℕ
 count_line n = number_line (codes "entries") n
 
+-- the entries that were found in a view of the first n mutations, if there are any
+unfoldable pub found_text : ℕ → List Cell → List ℕ
+found_text n [] = []
+found_text n (e ∷ es) = at_line n ++ entry_lines (e ∷ es)
+
 -- the answer of a scan that found these entries in a view of the first n mutations
-unfoldable pub scan_text : ℕ → List Cell → List ℕ
-scan_text n [] = end_line n
-scan_text n (e ∷ es) = at_line n ++ entry_lines (e ∷ es) ++ end_line n
+abbrev pub scan_text : ℕ → List Cell → List ℕ
+scan_text n list = found_text n list ++ end_line n
 
 abbrev pub part_name : Part → List ℕ
 part_name Row = codes "row"

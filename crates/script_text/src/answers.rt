@@ -8,11 +8,24 @@ use cell_key::{ByteText, EntryRef, NoMemory, append_escape};
 use std::alloc::Global;
 
 /// Appends a number, without leading zeros.
-pub fn append_number(alloc: Global, text: &mut ByteText, n: u64) -> Result<(), NoMemory>
+fn append_number(alloc: Global, text: &mut ByteText, n: u64) -> Result<(), NoMemory>
     ensures { OnOk result (text.new ≡ text.old ++ decimal n) }
 {
     let digits = n.to_string(alloc)?;
     text.append(digits.as_str().as_bytes())
+}
+
+/// Appends a word and a number.
+pub(crate) fn append_numbered(
+    alloc: Global,
+    text: &mut ByteText,
+    word: &[u8],
+    n: u64,
+) -> Result<(), NoMemory>
+    ensures { OnOk result (text.new ≡ text.old ++ (word.now ++ decimal n)) }
+{
+    text.append(word)?;
+    append_number(alloc, text, n)
 }
 
 fn append_time(alloc: Global, text: &mut ByteText, time: i64) -> Result<(), NoMemory>
@@ -61,7 +74,7 @@ pub fn entry_text(alloc: Global, entry: EntryRef<'_>) -> Result<ByteText, NoMemo
     Ok(text)
 }
 
-fn append_number_line(
+pub(crate) fn append_number_line(
     alloc: Global,
     text: &mut ByteText,
     word: &[u8],

@@ -13,7 +13,9 @@ mod refusal;
 mod refusal_lines;
 mod scans;
 mod search;
+mod session_answers;
 mod session_lines;
+mod store_answers;
 mod store_lines;
 #[cfg(test)]
 mod tests;
@@ -27,3 +29,10 @@ pub use line_laws::lines_are_whole;
 pub use lines::{Lines, split_input};
 pub use refusal::Refusal;
 pub use refusal_lines::{append_refusal, refusal_text};
+pub use session_answers::{
+    append_closed, append_dropped, append_opened, append_renewed, append_rest,
+};
+pub use store_answers::{
+    append_file, append_finished, append_flushed, append_freeze, append_frozen, append_job,
+    append_log, append_memory, append_started,
+};

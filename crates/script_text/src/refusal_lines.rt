@@ -3,7 +3,7 @@ ghost use Rattle.std.specs.Prelude.{◌≡◌, ◌++◌, codes, IfOk, OnOk};
 ghost use Rattle.std.specs.Fmt.{decimal};
 ghost use Rattle.script_text.specs.Answers.{part_name, refusal_code, refusal_line};
 
-use crate::answers::append_number;
+use crate::answers::append_numbered;
 use crate::refusal::Refusal;
 use cell_key::{ByteText, NoMemory, Part};
 use std::alloc::Global;
@@ -21,22 +21,12 @@ fn part_name(part: Part) -> &'static [u8]
     }
 }
 
-/// Appends a word and a number.
-fn append_numbered(alloc: Global, text: &mut ByteText, word: &[u8], n: u64) -> Result<(), NoMemory>
-    ensures { OnOk result (text.new ≡ text.old ++ (word.now ++ decimal n)) }
-{
-    text.append(word)?;
-    append_number(alloc, text, n)
-}
-
 /// Appends which file is in which job.
 fn append_in_job(alloc: Global, text: &mut ByteText, file: u64, job: u32) -> Result<(), NoMemory>
     ensures { OnOk result (text.new ≡ text.old ++ codes "in-job f" ++ decimal file ++ codes " j" ++ decimal job) }
 {
-    text.append(b"in-job f")?;
-    append_number(alloc, text, file)?;
-    text.append(b" j")?;
-    append_number(alloc, text, u64::from(job))
+    append_numbered(alloc, text, b"in-job f", file)?;
+    append_numbered(alloc, text, b" j", u64::from(job))
 }
 
 fn append_code(alloc: Global, text: &mut ByteText, refusal: &Refusal) -> Result<(), NoMemory>

@@ -1,5 +1,5 @@
 use crate::*;
-use cell_key::{ByteText, EntryRef, Key, Mutation, NoMemory, Part};
+use cell_key::{ByteText, EntryRef, FileIds, Key, Mutation, NoMemory, Part};
 use std::alloc::Global;
 use std::test::Fail;
 
@@ -158,5 +158,39 @@ fn writes_answers(rt: HostRuntime) -> Result<(), Fail> {
     for (refusal, want) in cases {
         assert_eq!(rt; refusal_text(alloc, &refusal)?.bytes(), want.as_bytes());
     }
+    Ok(())
+}
+
+#[test]
+fn writes_answers_of_steps(rt: HostRuntime) -> Result<(), Fail> {
+    let alloc = rt.alloc();
+    let mut files = FileIds::new(alloc);
+    files.push(1)?;
+    files.push(9_999_999_999)?;
+    let mut text = ByteText::new(alloc);
+    append_freeze(alloc, &mut text, 2)?;
+    append_flushed(alloc, &mut text, 1, 3)?;
+    append_started(alloc, &mut text, 4, false)?;
+    append_started(alloc, &mut text, 5, true)?;
+    append_finished(alloc, &mut text, 4, 2, 6)?;
+    append_log(alloc, &mut text, 7)?;
+    append_memory(alloc, &mut text, 8)?;
+    append_frozen(alloc, &mut text, Some(9))?;
+    append_frozen(alloc, &mut text, None)?;
+    append_file(alloc, &mut text, 3, 10)?;
+    append_job(alloc, &mut text, 6, true, &files)?;
+    append_opened(alloc, &mut text, 1, 11)?;
+    append_renewed(alloc, &mut text, 2, 12)?;
+    append_dropped(alloc, &mut text, 3)?;
+    append_closed(alloc, &mut text, 64)?;
+    append_rest(alloc, &mut text, Some(13))?;
+    append_rest(alloc, &mut text, None)?;
+    let steps = "freeze 2\nflushed f1 3\ncompact j4 part\ncompact j5 full\nfinish j4 f2 6\n";
+    let status = "log 7\nmemory 8\nfrozen 9\nfrozen none\nfile f3 10\njob j6 full f1 f9999999999\n";
+    let sessions = "open s1 11\nrenew s2 12\ndrop s3\nclose s64\nend 13\nmore\n";
+    let mut want = ByteText::of(alloc, steps.as_bytes())?;
+    want.append(status.as_bytes())?;
+    want.append(sessions.as_bytes())?;
+    assert_eq!(rt; text.bytes(), want.bytes());
     Ok(())
 }
