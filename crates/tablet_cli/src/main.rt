@@ -9,7 +9,10 @@ mod refusal;
 mod reply;
 mod scan;
 mod script;
+mod sessions;
 mod showing;
+mod steps;
+mod tablet;
 #[cfg(test)]
 mod tests;
 
