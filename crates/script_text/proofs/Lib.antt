@@ -5,3 +5,4 @@ pub mod Updating
 pub mod Examples
 pub mod Splitting
 mod Digits
+pub mod Counting

@@ -1,5 +1,5 @@
 -- The open sessions of a script, and what a fetch gives them. All of this is this project's own.
-use Rattle.std.specs.Prelude.{ℕ, Bool, cond, eqb, List, [], ◌∷◌, ◌++◌, Option, Some, None, is_some, take}
+use Rattle.std.specs.Prelude.{ℕ, ◌==◌, List, ◌++◌, Option, Some, None, option_and_then, position, remove, slice_get, slice_set, take}
 use Rattle.tablet_model.specs.Answers.{answer}
 use Rattle.tablet_model.specs.Cell.{Cell}
 use Rattle.tablet_model.specs.Cuts.{Span}
@@ -22,20 +22,21 @@ pub record OpenScan : Type 0 where
   pub place : Place
   pub n : ℕ
 
+-- the place of the session of a number, if one is open
+abbrev pub place_of : ℕ → List OpenScan → Option ℕ
+place_of number sessions = position (λ s. s.number == number) sessions
+
 -- the session of a number, if one is open
-unfoldable pub find_session : ℕ → List OpenScan → Option OpenScan
-find_session number [] = None
-find_session number (s ∷ ss) = cond (eqb s.number number) (Some s) (find_session number ss)
+abbrev pub find_session : ℕ → List OpenScan → Option OpenScan
+find_session number sessions = option_and_then (slice_get sessions) (place_of number sessions)
 
 -- the sessions where another stands in the place of that of its number
-unfoldable pub with_session : OpenScan → List OpenScan → List OpenScan
-with_session new [] = []
-with_session new (s ∷ ss) = cond (eqb s.number new.number) (new ∷ ss) (s ∷ with_session new ss)
+abbrev pub with_session : OpenScan → List OpenScan → List OpenScan
+with_session new sessions = elim (place_of new.number sessions) [ None ↦ sessions | Some i ↦ slice_set sessions i new ]
 
 -- the sessions without that of a number
-unfoldable pub without_session : ℕ → List OpenScan → List OpenScan
-without_session number [] = []
-without_session number (s ∷ ss) = cond (eqb s.number number) ss (s ∷ without_session number ss)
+abbrev pub without_session : ℕ → List OpenScan → List OpenScan
+without_session number sessions = elim (place_of number sessions) [ None ↦ sessions | Some i ↦ remove sessions i ]
 
 -- what a scan answers over a log: the configured stack over its live entries of these families, in this range
 abbrev pub scanned : List IterSpec → Span → Option (List (List ℕ)) → List RowChange → List Cell
