@@ -1,5 +1,3 @@
 pub mod Takes
 pub mod Walks
 pub mod WalkLaws
-pub mod Looks
-pub mod Sessions
