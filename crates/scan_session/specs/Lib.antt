@@ -1,3 +1,4 @@
 pub mod Takes
 pub mod Walks
 pub mod WalkLaws
+pub mod Runs

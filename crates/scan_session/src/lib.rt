@@ -2,6 +2,7 @@
 #![tactic(auto)]
 
 mod piece;
+mod run;
 mod walk_laws;
 
 pub use piece::{Fetched, Piece, Pieces};
