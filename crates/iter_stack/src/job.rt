@@ -25,7 +25,7 @@ pub struct Job {
 }
 
 impl Model for Job {
-    ghost use Rattle.std.specs.Prelude.{◌≡◌, ⊥};
+    ghost use Rattle.std.specs.Prelude.{◌≡◌};
     ghost use Rattle.std.specs.Arc.{arc_value};
     ghost use Rattle.tablet_model.specs.Rules.{AreStorable};
     ghost use Rattle.iter_config.specs.RulesOf.{rules_of};
