@@ -1,5 +1,4 @@
 pub mod Takes
 pub mod Walks
 pub mod WalkLaws
-pub mod Looks
-pub mod Sessions
+pub mod Runs

@@ -1,0 +1,4 @@
+pub mod Beyond
+pub mod Takings
+pub mod Walking
+pub mod Running

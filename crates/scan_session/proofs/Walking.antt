@@ -1,0 +1,60 @@
+-- Walks, and the fetches that make them.
+use Rattle.std.proofs.Common.{◌≡◌, ℕ, ◌-◌, ◌≤◌, List, [], ◌∷◌, ◌++◌, refl, sym, ap, ◌∙◌, subst, append_assoc, append-nil}
+use Rattle.std.specs.List.{filter}
+use Rattle.tablet_model.specs.Cell.{Cell}
+use Rattle.tablet_model.specs.Order.{above}
+use Rattle.tablet_model.specs.Places.{Place, Start, after}
+use Rattle.tablet_model.specs.Sorted.{Ascends}
+use Rattle.scan_session.specs.Takes.{Mode, moved, taken, taken_behind}
+use Rattle.scan_session.specs.WalkLaws.{NothingIsSkipped, WalksAreWhole, WalksJoin, FetchesWalk, RestIsLeft}
+use Rattle.scan_session.specs.Walks.{IsPieceOf, Walks, IsEnd, pieces_of, fetched, joined, AreAt}
+use Rattle.scan_session.specs.declared.piece.Piece.{Piece}
+use Rattle.scan_session.proofs.Beyond.{behind_piece}
+use Rattle.scan_session.proofs.Takings.{taken_piece}
+
+pub nothing_skipped : NothingIsSkipped
+nothing_skipped answers most mode p q n k l [] up at w = ap (λ r. after r (answers k)) (sym w.0)
+nothing_skipped answers most mode p q n k l (x ∷ pieces) up at w =
+    let piece : IsPieceOf mode x.entries (after p (answers k)) = subst (λ j. IsPieceOf mode x.entries (after p (answers j))) at.0 w.2 in
+    piece.whole
+    ∙ ap (λ l. x.entries ++ l)
+        (sym (behind_piece mode p (answers k) x.entries piece.rest up piece.whole piece.ends)
+        ∙ nothing_skipped answers most mode (moved mode p x.entries) q x.n k l pieces up at.1 w.3)
+    ∙ sym (append_assoc x.entries (joined pieces) (after q (answers k)))
+
+-- everything lies behind the start
+all_after : (list : List Cell) → after Start list ≡ list
+all_after [] = refl
+all_after (x ∷ xs) = ap (λ l. x ∷ l) (all_after xs)
+
+pub whole_walks : WalksAreWhole
+whole_walks answers most mode q k l pieces up at w end =
+    sym (sym (all_after (answers k))
+    ∙ nothing_skipped answers most mode Start q 0 k l pieces up at w
+    ∙ ap (λ l. joined pieces ++ l) end.nothing
+    ∙ append-nil (joined pieces))
+
+pub walks_join : WalksJoin
+walks_join answers most mode p q r n l k [] ys v w =
+    subst (λ j. Walks answers most mode p j ys r k) v.1 (subst (λ s. Walks answers most mode s l ys r k) v.0 w)
+walks_join answers most mode p q r n l k (x ∷ xs) ys v w =
+    (v.0, v.1, v.2, walks_join answers most mode (moved mode p x.entries) q r x.n l k xs ys v.3 w)
+
+pub fetches_are_walks : FetchesWalk
+unfolding fetched pieces_of taken moved
+fetches_are_walks answers most mode p n k m h b = of_left (after p (answers k)) refl
+  where
+    of_left : (left : List Cell) → after p (answers k) ≡ left
+        → (l : ℕ) × Walks answers most mode p n (fetched mode m k left) (moved mode p (taken mode m left)) l
+    of_left [] e = (n, (refl, refl))
+    of_left (x ∷ xs) e = (k, (h, b, subst (IsPieceOf mode (x ∷ taken_behind mode (m - 1) x xs)) (sym e) (taken_piece mode m x xs), (refl, refl)))
+
+pub rest_left : RestIsLeft
+unfolding taken moved
+rest_left mode m p list up = of_left (after p list) refl
+  where
+    of_left : (left : List Cell) → after p list ≡ left → left ≡ taken mode m left ++ after (moved mode p (taken mode m left)) list
+    of_left [] e = sym e
+    of_left (x ∷ xs) e =
+        let k : IsPieceOf mode (taken mode m (x ∷ xs)) (x ∷ xs) = taken_piece mode m x xs in
+        k.whole ∙ ap (λ l. taken mode m (x ∷ xs) ++ l) (sym (behind_piece mode p list (taken mode m (x ∷ xs)) k.rest up (e ∙ k.whole) k.ends))

@@ -1,0 +1,9 @@
+// Scan sessions: what a reader is given piece by piece while mutations come in, and the laws of such walks.
+#![tactic(auto)]
+
+mod piece;
+mod run;
+mod walk_laws;
+
+pub use piece::{Fetched, Piece, Pieces};
+pub use walk_laws::{fetches_walk, walks_are_whole, what_is_taken};
