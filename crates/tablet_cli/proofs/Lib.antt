@@ -1,4 +1,6 @@
-mod Examples
 mod Numbered
 mod Scans
 mod Packs
+pub mod OpenSessions
+pub mod Replaying
+pub mod Scripts

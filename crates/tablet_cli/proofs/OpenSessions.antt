@@ -1,5 +1,5 @@
 -- Open sessions by their numbers, and what becomes of them, in code and in the text.
-use Rattle.std.proofs.Common.{◌≡◌, ◌==◌, ℕ, zero, suc, ◌+◌, ◌<◌, not, Bool, cond, List, [], ◌∷◌, ◌++◌, map, length, nat_lt, take, drop, Option, Some, None, slice_get, refl, sym, ap, ◌∙◌, subst, append-nil, append_assoc}
+use Rattle.std.proofs.Common.{◌≡◌, ◌==◌, ℕ, zero, suc, ◌+◌, ◌<◌, not, Bool, cond, List, [], ◌∷◌, ◌++◌, map, length, nat_lt, take, drop, Option, Some, None, slice_get, refl, sym, ap, ◌∙◌, subst, append-nil, append_assoc, OnOk, Result, Ok, Err, arith}
 use Rattle.std.specs.Prelude.{option_map, position, remove, slice_set}
 use Rattle.std.specs.List.{AllByRecursion, prefix_len}
 use Rattle.std.proofs.lemmas.List.{length-map, map-append, take-map, drop-map, map-set}
@@ -97,10 +97,10 @@ module _ (now : Snapshot) (s : OpenSession) (p : IsPinned now s) (count : ℕ) (
 
   -- the text of what it gave
   pub said_is : pieces_text pieces ++ rest_line ended ≡ fetch_text now.config now.log count (open_scan s)
+  unfolding fetched
   said_is = λ i. front i ++ rest_line (back i)
     where
       front : pieces_text pieces ≡ found_text (length s.session.view.log) (next_entries now.config now.log count (open_scan s))
-      unfolding fetched
       front = ap pieces_text whole.pieces ∙ pieces_are (length s.session.view.log) (taken s.session.mode count (after s.session.place (answer_over s.session s.session.view.log)))
         ∙ ap (found_text (length s.session.view.log)) next_is
 
@@ -154,3 +154,14 @@ pinned_behind now s t v p = record {
   config = ap (λ u. u.config) v ∙ p.config;
   log = subst (λ (l : List RowChange). BeginsWith now.log l) (sym (ap (λ u. u.log) v)) p.log;
 }
+
+-- what holds in any case holds where a call succeeded
+pub always : {E P : Type 0} (r : Result (Unit {0}) E) → P → OnOk r P
+always (Ok x) h = h
+always (Err e) h = tt
+
+-- the session at a place
+pub session_there : (ss : List OpenSession) (i : ℕ) → i < length ss → (s : OpenSession) × (slice_get ss i ≡ Some s)
+session_there [] i h = absurd (omega (arith, h))
+session_there (s ∷ ss) zero h = (s, refl)
+session_there (s ∷ ss) (suc i) h = session_there ss i (omega (arith, h))

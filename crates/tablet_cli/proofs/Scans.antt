@@ -34,7 +34,6 @@ use Rattle.tablet_model.specs.Stages.{by_cell, by_column}
 use Rattle.cell_key.specs.Mutations.{row_change_of}
 use Rattle.cell_key.specs.declared.mutation.Mutation.{Mutation}
 use Rattle.tablet_cli.specs.Bounds.{IsInBounds}
-use Rattle.tablet_cli.specs.Replay.{scanned}
 
 -- ---- histories
 
@@ -98,32 +97,7 @@ pub storable_history : (c : Rules) (h : List RowChange) → IsHistory c h → Ar
 unfolding history_entries
 storable_history c h k = all_sorted above above_exact (IsStorable c) (numbered 0 h) (storable_numbered c 0 h k)
 
--- those of some families are in order, and a configuration that let them in reads them
-pub chosen_ascends : (families : Option (List (List ℕ))) (h : List RowChange) → Ascends above (in_families families (history_entries h))
-chosen_ascends families h = Ascends-filter above above_exact (is_in families) (history_entries h) (history_ascends h)
-
-pub chosen_read : (specs : List IterSpec) (families : Option (List (List ℕ))) (h : List RowChange) → IsHistory (rules_of specs) h
-    → AreUnmarkedRead (stages_of specs) (in_families families (history_entries h))
-chosen_read specs families h k =
-    storable_read specs (in_families families (history_entries h)) (all_filter (IsStorable (rules_of specs)) (is_in families) (history_entries h) (storable_history (rules_of specs) h k))
-
--- ---- what is answered
-
--- families may be chosen first
-pub scanned_is : (specs : List IterSpec) (range : Span) (families : Option (List (List ℕ))) (h : List Mutation)
-    → within range (stages (stages_of specs) (live (in_families families (history_entries (map row_change_of h))))) ≡ scanned specs range families h
-unfolding answer scan_of
-scanned_is specs range families h =
-    ap (λ list. within range (stages (stages_of specs) list))
-    (sym (restrict_live (is_in families) (families_columns families) (history_entries (map row_change_of h)) (history_ascends (map row_change_of h))))
-
--- one entry more
-pub chosen_more : (families : Option (List (List ℕ))) (es : List Cell) (i : ℕ) (e : Cell) (list : List Cell) → i < length es → e ≡ slice_index_or es i e
-    → list ≡ in_families families (take i es) → list ++ in_families families (e ∷ []) ≡ in_families families (take (i + 1) es)
-chosen_more families es i e list lt is h =
-    ap (λ l. l ++ in_families families (e ∷ [])) h
-    ∙ sym (filter-append (is_in families) (take i es) (e ∷ []))
-    ∙ ap (in_families families) (ap (λ x. take i es ++ x ∷ []) is ∙ sym (take_more es i e lt))
+-- ---- what a range holds
 
 filter-true : (list : List Cell) → filter (λ e. true) list ≡ list
 filter-true [] = refl

@@ -1,7 +1,9 @@
 -- The bytes that `pack` writes for an input. All of this is this project's own.
-use Rattle.std.specs.Prelude.{ℕ, ◌≤◌, Bool, not, ◌&&◌, List, [], ◌∷◌, map, length, Result, Ok, Err}
+use Rattle.std.specs.Prelude.{ℕ, ◌≤◌, Bool, not, ◌&&◌, List, [], ◌∷◌, ◌++◌, map, length, Option, Some, None, Result, Ok, Err}
 use Rattle.tablet_model.specs.Cell.{Cell}
 use Rattle.tablet_model.specs.History.{history_entries}
+use Rattle.tablet_model.specs.Ingest as model
+use Rattle.tablet_model.specs.Ingest.{ingest}
 use Rattle.tablet_model.specs.Markers.{live}
 use Rattle.tablet_model.specs.Stages.{stages}
 use Rattle.iter_config.specs.Faults.{Fault}
@@ -11,10 +13,26 @@ use Rattle.cell_key.specs.Mutations.{row_change_of}
 use Rattle.cell_key.specs.declared.mutation.Mutation.{Mutation}
 use Rattle.script_text.specs.Lines.{script_lines}
 use Rattle.script_text.specs.Grammar.{line_of}
+use Rattle.script_text.specs.declared.line.Line.{Line}
+use Rattle.script_text.specs.declared.line.Line.TheVariants.{Mutate}
 use Rattle.sorted_file.specs.Image.{image_of}
 use Rattle.sorted_file.specs.Lists.{longest_value}
 use Rattle.tablet_cli.specs.Refusals.{config_line}
-use Rattle.tablet_cli.specs.Replay.{history_after, input_config}
+use Rattle.tablet_cli.specs.Replay.{input_config}
+
+-- why a mutation stays out behind a history, if it does
+abbrev pub refused_by : List IterSpec → List Mutation → Mutation → Option model.Refusal
+refused_by config h m = ingest (rules_of config) (length h) (row_change_of m)
+
+-- the history behind a mutation, by why it stays out: where it comes in, it stands at the end
+abbrev pub mutation_after : List Mutation → Mutation → Option model.Refusal → List Mutation
+mutation_after h m (Some refusal) = h
+mutation_after h m None = h ++ m ∷ []
+
+-- the history behind a line
+unfoldable pub history_after : List IterSpec → List Mutation → Option Line → List Mutation
+history_after config h (Some (Mutate m)) = mutation_after h m (refused_by config h m)
+history_after config h _ = h
 
 -- the history behind some lines
 abbrev pub history_behind : List IterSpec → List Mutation → List (List ℕ) → List Mutation

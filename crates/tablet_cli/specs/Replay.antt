@@ -61,7 +61,7 @@ if_open r number text = elim (find_session number r.sessions) [ None ↦ refusal
 -- what becomes of a session, where it is open
 abbrev pub where_open : Replayed → ℕ → (OpenScan → OpenScan) → Replayed
 where_open r number change =
-    record r { sessions = elim (find_session number r.sessions) [ None ↦ r.sessions | Some s ↦ with_session (change s) r.sessions ] }
+    record r { sessions = elim (find_session number r.sessions) [ None ↦ r.sessions | Some s ↦ with_session number (change s) r.sessions ] }
 
 -- the answer to a line; None is a line without a reading
 unfoldable pub line_answer : Replayed → Option Line → List ℕ

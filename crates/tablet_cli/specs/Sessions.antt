@@ -30,9 +30,9 @@ place_of number sessions = position (λ s. s.number == number) sessions
 abbrev pub find_session : ℕ → List OpenScan → Option OpenScan
 find_session number sessions = option_and_then (slice_get sessions) (place_of number sessions)
 
--- the sessions where another stands in the place of that of its number
-abbrev pub with_session : OpenScan → List OpenScan → List OpenScan
-with_session new sessions = elim (place_of new.number sessions) [ None ↦ sessions | Some i ↦ slice_set sessions i new ]
+-- the sessions where another stands in the place of that of a number
+abbrev pub with_session : ℕ → OpenScan → List OpenScan → List OpenScan
+with_session number new sessions = elim (place_of number sessions) [ None ↦ sessions | Some i ↦ slice_set sessions i new ]
 
 -- the sessions without that of a number
 abbrev pub without_session : ℕ → List OpenScan → List OpenScan

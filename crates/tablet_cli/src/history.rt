@@ -9,7 +9,7 @@ ghost use Rattle.cell_key.specs.Views.{cell_of};
 ghost use Rattle.iter_config.specs.RulesOf.{rules_of};
 ghost use Rattle.tablet_cli.specs.Bounds.{AreInBounds, IsInBounds};
 ghost use Rattle.ingest.specs.Refusals.{refusal_of};
-ghost use Rattle.tablet_cli.specs.Replay.{mutation_after, refused_by};
+ghost use Rattle.tablet_cli.specs.Packing.{mutation_after, refused_by};
 
 use cell_key::{Entries, Entry, EntryRef, KeyRef, Mutation, Mutations, NoMemory, Update};
 use ingest::{Refused, check};

@@ -13,8 +13,7 @@ ghost use Rattle.iter_stack.specs.Usages.{usage_cells};
 ghost use Rattle.script_text.specs.Grammar.{line_of};
 ghost use Rattle.script_text.specs.Lines.{lines_of};
 ghost use Rattle.sorted_file.specs.Image.{image_of};
-ghost use Rattle.tablet_cli.specs.Packing.{HasShortValue, history_behind, is_minor_alone, packed};
-ghost use Rattle.tablet_cli.specs.Replay.{history_after};
+ghost use Rattle.tablet_cli.specs.Packing.{HasShortValue, history_after, history_behind, is_minor_alone, packed};
 
 use crate::history::History;
 use crate::scan::source_over;
@@ -50,7 +49,7 @@ fn history_of(alloc: Global, config: &Config, script: &[u8]) -> Result<History, 
 }
 
 /// Takes the mutation of a line in, if it is one that comes in.
-#[tactic(auto, unfolding(crate::specs::Replay::history_after))]
+#[tactic(auto, unfolding(crate::specs::Packing::history_after))]
 fn take_line(
     alloc: Global,
     config: &Config,

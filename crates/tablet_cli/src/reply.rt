@@ -34,7 +34,7 @@ fn replay_reply(alloc: Global, input: &[u8]) -> Result<Reply, NoMemory>
     let (config, script) = split_input(input);
     match read_config(alloc, config) {
         Ok(config) => Ok(Reply {
-            text: answers_to(alloc, &config, script)?,
+            text: answers_to(alloc, config, script)?,
             end: Status::Done,
         }),
         Err(ConfigError::Refused { rule, at }) => Ok(Reply {

@@ -1,4 +1,4 @@
-ghost use Rattle.std.specs.Prelude.{◌≡◌, ◌<◌, ◌≤◌, ◌==◌, [], ◌∷◌, ◌++◌, position, length, slice_get, slice_set, remove, Some, IfOk, IfSome, OnOk};
+ghost use Rattle.std.specs.Prelude.{◌≡◌, ◌<◌, ◌≤◌, ◌==◌, [], ◌∷◌, ◌++◌, position, length, slice_get, slice_set, remove, Some, IfOk, IfSome, OnOk, OnErr};
 ghost use Rattle.std.specs.Arc.{arc_value};
 ghost use Rattle.cell_key.specs.Ranges.{span_of};
 ghost use Rattle.scan_session.specs.Sessions.{IsFetch, IsSameScan};
@@ -35,6 +35,7 @@ impl Model for Sessions {
 
 impl Sessions {
     ghost use Rattle.tablet_cli.specs.SessionSteps.{IsFetchedAt, IsRenewedAt};
+    ghost use Rattle.tablet_cli.specs.TabletParts.{IsPinned};
 
     /// No sessions. It takes no memory.
     pub fn new(alloc: Global) -> Sessions
@@ -65,7 +66,8 @@ impl Sessions {
     pub fn fetch_at(&mut self, alloc: Global, i: usize, count: u32) -> Result<Fetched, NoMemory>
         requires inside { i < length self.old }
         requires some { 1 ≤ count }
-        ensures { IfOk result (IsFetchedAt self.old self.new i count) }
+        ensures given { IfOk result (IsFetchedAt self.old self.new i count) }
+        ensures failed { OnErr result (self.new ≡ self.old) }
     {
         let mut views = Still::new();
         let open = &mut self.open[i];
@@ -75,6 +77,7 @@ impl Sessions {
     /// Moves the session at a place to a view, whose log begins with that of the session's view.
     pub fn renew_at(&mut self, i: usize, view: Arc<View>)
         requires inside { i < length self.old }
+        requires pinned { IfSome (slice_get self.old i) (IsPinned (arc_value view)) }
         ensures { IsRenewedAt self.old self.new i (arc_value view) }
     {
         let open = &mut self.open[i];

@@ -1,13 +1,11 @@
-use Rattle.std.proofs.Common.{◌≡◌, ◌++◌, [], map}
-use Rattle.tablet_model.specs.Ingest.{IsHistory}
-use Rattle.cell_key.specs.Mutations.{row_change_of}
-use Rattle.iter_config.specs.RulesOf.{rules_of}
+use Rattle.std.proofs.Common.{◌≡◌, ◌+◌, ◌≤◌, ◌++◌, length}
 use Rattle.script_text.specs.Lines.{lines_of}
-use Rattle.tablet_cli.specs.Replay.{script_answers}
+use Rattle.tablet_cli.specs.Replay.{replayed_none, script_answers}
+use Rattle.tablet_cli.specs.TabletParts.{replayed_by}
 use Rattle.tablet_cli.proofs.script.answers_to.Given as goal
 
 abbrev pub invariant-loop-line : goal.invariant-loop-line
 invariant-loop-line l = record {
-  text : l.text ++ script_answers l.config l.history l.line-iterator ≡ script_answers l.config [] (lines_of l.script);
-  lawful : IsHistory (rules_of l.config) (map row_change_of l.history);
+  text : l.text ++ script_answers (replayed_by l.tablet) l.line-iterator ≡ script_answers (replayed_none l.fn.config) (lines_of l.script);
+  few : l.tablet.core.view.version + length l.line-iterator ≤ length (lines_of l.script);
 }
