@@ -1,7 +1,9 @@
 -- What the tests find that a store may have.
-use Rattle.std.proofs.Common.{◌≡◌, ◌≤◌, Bool, true, false, not, ◌&&◌, ◌||◌, cond, List, [], ◌∷◌, length, lit≤, refl, sym, ap, ◌∙◌}
+use Rattle.std.proofs.Common.{◌≡◌, ◌==◌, ◌≤◌, ℕ, Bool, true, false, not, ◌&&◌, ◌||◌, cond, List, [], ◌∷◌, length, lit≤, refl, sym, ap, ◌∙◌, arith}
 use Rattle.std.specs.Prelude.{filter}
 use Rattle.std.specs.List.{AllByRecursion, list_all}
+use Rattle.std.proofs.lemmas.Bool.Decides.{nat_tests}
+use Rattle.std.proofs.lemmas.List.{nil_from_length}
 use Rattle.tablet_model.specs.Bounds.{KeyBounds}
 use Rattle.tablet_model.specs.Cell.{Cell}
 use Rattle.tablet_model.specs.Reading.{IsReadBy}
@@ -58,13 +60,16 @@ storable_put specs e bounds put short reads = record {
 
 -- a delete that is not refused
 pub storable_delete : (specs : List IterSpec) (e : Cell) → KeyBounds e.key.row e.key.family e.key.qualifier e.key.visibility → e.key.deleted ≡ true
-    → e.value ≡ [] → refuses_delete specs e.key.family e.key.qualifier ≡ false → IsStorable (rules_of specs) e
+    → (length e.value == 0) ≡ true → not (refuses_delete specs e.key.family e.key.qualifier) ≡ true → IsStorable (rules_of specs) e
 unfolding rules_of
 storable_delete specs e bounds deleted empty taken = record {
   bounds = bounds;
-  short = rw empty (lit≤ tt);
-  no_value = λ _. empty;
-  may_delete = λ _. ap not taken;
+  short = rw (none_of e.value empty) (lit≤ tt);
+  no_value = λ _. none_of e.value empty;
+  may_delete = λ _. taken;
   reads = λ put. absurd (let no : true ≡ false = sym deleted ∙ put in cc);
   reads_scan = λ put. absurd (let no : true ≡ false = sym deleted ∙ put in cc);
 }
+  where
+    none_of : (v : List ℕ) → (length v == 0) ≡ true → v ≡ []
+    none_of v h = nil_from_length v (grind (arith, nat_tests))
