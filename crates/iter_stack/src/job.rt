@@ -46,7 +46,8 @@ impl Model for Job {
       input = union_of (arc_value j.parts).items;
     } };
 
-    ghost invariant = { λ j. (¬ (j.usage ≡ Scan)) × AreStorable (rules_of (arc_value j.config)) (union_of (arc_value j.parts).items) };
+    ghost invariant = { λ j. (¬ (j.usage ≡ Scan))
+        × AreStorable (rules_of (arc_value j.config)) (union_of (arc_value j.parts).items) };
 }
 
 /// A compaction that was made, and the file of what it made.
