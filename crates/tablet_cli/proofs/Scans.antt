@@ -1,6 +1,5 @@
 -- What a scan of a history reads, and what it answers.
 use Rattle.std.proofs.Common.{◌≡◌, ℕ, ◌+◌, ◌<◌, arith, take, slice_index_or, List, [], ◌∷◌, ◌++◌, map, length, Option, None, sym, ap, ◌∙◌, subst}
-use Rattle.std.specs.Prelude.{filter}
 use Rattle.std.proofs.lemmas.List.{length-map, map-append, take_more}
 use Rattle.std.proofs.lemmas.List.Elements.{filter-append}
 use Rattle.tablet_model.specs.Cell.{Cell}
