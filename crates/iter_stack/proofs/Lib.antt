@@ -4,4 +4,4 @@ pub mod Runs
 pub mod Taken
 pub mod Stored
 pub mod Written
-pub mod ExampleReads
+pub mod ExampleStores

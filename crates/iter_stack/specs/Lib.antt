@@ -7,4 +7,3 @@ pub mod Places
 pub mod PartCells
 pub mod FileValues
 pub mod Jobs
-pub mod Examples

@@ -41,12 +41,13 @@ impl Model for Job {
     ghost Value = { Compaction };
 
     ghost view = { λ j. record {
-        config = arc_value j.config;
-        usage = j.usage;
-        input = union_of (arc_value j.parts).items;
+      config = arc_value j.config;
+      usage = j.usage;
+      input = union_of (arc_value j.parts).items;
     } };
 
-    ghost invariant = { λ j. (¬ (j.usage ≡ Scan)) × AreStorable (rules_of (arc_value j.config)) (union_of (arc_value j.parts).items) };
+    ghost invariant = { λ j. (¬ (j.usage ≡ Scan))
+        × AreStorable (rules_of (arc_value j.config)) (union_of (arc_value j.parts).items) };
 }
 
 /// A compaction that was made, and the file of what it made.
@@ -67,15 +68,15 @@ impl Model for DoneJob {
     ghost Value = { Compaction };
 
     ghost view = { λ d. record {
-        config = arc_value d.config;
-        usage = d.usage;
-        input = union_of (arc_value d.parts).items;
+      config = arc_value d.config;
+      usage = d.usage;
+      input = union_of (arc_value d.parts).items;
     } };
 
     ghost invariant = { λ d. arc_value d.file ≡ compacted record {
-        config = arc_value d.config;
-        usage = d.usage;
-        input = union_of (arc_value d.parts).items;
+      config = arc_value d.config;
+      usage = d.usage;
+      input = union_of (arc_value d.parts).items;
     } };
 }
 
@@ -91,9 +92,9 @@ impl Job {
         requires compacts { ¬ (usage ≡ Scan) }
         requires storable { AreStorable (rules_of (arc_value config)) (union_of parts.items) }
         ensures { IfOk result (λ job. job ≡ record {
-            config = arc_value config;
-            usage = usage;
-            input = union_of parts.items;
+          config = arc_value config;
+          usage = usage;
+          input = union_of parts.items;
         }) }
     {
         let parts = Arc::new(alloc, parts)?;
@@ -145,7 +146,7 @@ fn compact_parts(
 }
 
 /// A source of the entries of some parts in one order.
-fn merged(alloc: Global, parts: &[PartCursor]) -> Result<MergeIter<PartCursor>, NoMemory>
+pub(crate) fn merged(alloc: Global, parts: &[PartCursor]) -> Result<MergeIter<PartCursor>, NoMemory>
     ensures cells { IfOk result (λ it. merge_cells part_cells it ≡ union_of parts.now) }
     ensures valid { IfOk result (merge_valid part_rest (λ _. ⊤)) }
 {

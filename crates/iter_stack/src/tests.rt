@@ -1,14 +1,20 @@
-ghost use Rattle.std.specs.Prelude.{◌≡◌, true, IfOk};
-ghost use Rattle.std.specs.Arc.{arc_value};
-ghost use Rattle.std.specs.List.{list_all};
+ghost use Rattle.std.specs.Prelude.{◌≡◌, true, None, IfOk};
+ghost use Rattle.tablet_model.specs.Ingest.{out_of_bounds};
 ghost use Rattle.tablet_model.specs.Order.{above};
+ghost use Rattle.tablet_model.specs.Rules.{AreStorable, IsStorable};
 ghost use Rattle.tablet_model.specs.Sorted.{Ascends};
-ghost use Rattle.iter_stack.specs.Examples.{is_read};
+ghost use Rattle.cell_key.specs.Mutations.{row_change_of};
+ghost use Rattle.cell_key.specs.Views.{cell_of};
+ghost use Rattle.iter_contract.specs.VecRest.{vec_cells};
+ghost use Rattle.iter_config.specs.RulesOf.{rules_of};
 
 use super::*;
-use cell_key::{Bound, Entries, Entry, EntryRef, Key, Range};
+use crate::job::merged;
+use cell_key::{ByteText, Entries, Entry, EntryRef, Key, Mutation, Update, Updates};
 use iter_config::{Config, read_config};
 use iter_contract::{SortedSource, VecSource};
+use memory_map::MemMap;
+use sorted_file::SortedFile;
 use std::alloc::Global;
 use std::str;
 use std::sync::Arc;
@@ -86,23 +92,32 @@ fn entries(alloc: Global) -> Result<Entries, Fail>
     Ok(entries)
 }
 
-/// Whether an entry is a marker or has a value that a configuration reads.
-fn is_read(config: &Config, entry: &Entry) -> bool
-    ensures { result ≡ is_read config.now entry.now }
+/// Whether an entry may be in a store under a configuration.
+fn is_storable(config: &Config, entry: EntryRef<'_>) -> bool
+    ensures { result ≡ true → IsStorable (rules_of config.now) (cell_of entry.entry) }
 {
-    let entry = entry.entry();
     let key = entry.key;
-    key.deleted || config.reads(key.family, key.qualifier, entry.value)
+    if key.deleted {
+        entry.value.is_empty() && !config.refuses_delete(key.family, key.qualifier)
+    } else {
+        entry.value.len() <= 65536 && config.reads(key.family, key.qualifier, entry.value)
+    }
 }
 
-/// Whether all entries are.
-fn are_read(config: &Config, entries: &Entries) -> bool
-    ensures { result ≡ list_all (is_read config.now) entries.now }
+/// Whether all entries of a source may be.
+fn are_storable<S: SortedSource>(config: &Config, source: S) -> Result<bool, Fail>
+    requires { S.valid source }
+    ensures { IfOk result (λ b. b ≡ true → AreStorable (rules_of config.now) (S.cells source)) }
 {
-    entries
-        .as_slice()
-        .iter()
-        .all(|entry| is_read(config, entry))
+    let mut source = source;
+    source.seek(&ALL_KEYS)?;
+    while let Some(entry) = source.top() {
+        if !is_storable(config, entry) {
+            return Ok(false);
+        }
+        source.next()?;
+    }
+    Ok(true)
 }
 
 /// What a copy of a source has: row, family, time and value of each entry, and `!` for a marker. A dot says that a walk
@@ -111,11 +126,7 @@ fn left_in<S: SortedSource>(alloc: Global, source: &S) -> Result<String, Fail>
     requires { S.valid source.now }
 {
     let mut source = source.deep_copy(alloc)?;
-    let everything = Range {
-        start: Bound::Open,
-        end: Bound::Open,
-    };
-    source.seek(&everything)?;
+    source.seek(&ALL_KEYS)?;
     let mut left = String::new(alloc);
     while let Some(entry) = source.top() {
         let key = entry.key;
@@ -128,23 +139,17 @@ fn left_in<S: SortedSource>(alloc: Global, source: &S) -> Result<String, Fail>
         source.next()?;
     }
 
-    source.seek(&everything)?;
+    source.seek(&ALL_KEYS)?;
     walk_to_end(&mut source)?;
     left.push_str(if source.top().is_none() { "." } else { "?" })?;
     Ok(left)
 }
 
-/// What a usage of a configuration makes of entries.
-fn made(
-    alloc: Global,
-    config: &Config,
-    usage: Usage,
-    entries: &Arc<Entries>,
-) -> Result<String, Fail>
-    requires ascends { Ascends above (arc_value entries.now) }
-    requires read { list_all (is_read config.now) (arc_value entries.now) ≡ true }
+/// What a usage of a configuration makes of a copy of a leaf.
+fn made(alloc: Global, config: &Config, usage: Usage, leaf: &VecSource) -> Result<String, Fail>
+    requires { AreStorable (rules_of config.now) (vec_cells leaf.now) }
 {
-    let leaf = VecSource::new(Arc::try_clone(entries)?);
+    let leaf = leaf.deep_copy(alloc)?;
     let stack = build(alloc, config, usage, leaf)?;
     left_in(alloc, &stack)
 }
@@ -153,8 +158,8 @@ fn made(
 fn each_usage_runs_its_iterators(rt: HostRuntime) -> Result<(), Fail> {
     let alloc = rt.alloc();
     let config = read_config(alloc, DOCUMENT)?;
-    let entries = Arc::new(alloc, entries(alloc)?)?;
-    assert!(rt; are_read(&config, &entries));
+    let leaf = VecSource::new(Arc::new(alloc, entries(alloc)?)?);
+    assert!(rt; are_storable(&config, leaf.deep_copy(alloc)?)?);
     let usages = [
         (Usage::Scan, "1a9=11,2 1s9=3 2s3=9 ."),
         (Usage::Minc, "1a9=11,2 1s9=3 1s7! 1v9=new 2s3=9 ."),
@@ -165,8 +170,91 @@ fn each_usage_runs_its_iterators(rt: HostRuntime) -> Result<(), Fail> {
         (Usage::MajcFull, "1a9=11,2 1s9=3 1v9=new 1v8=old 2s3=9 ."),
     ];
     for (usage, want) in usages {
-        let left = made(alloc, &config, usage, &entries)?;
+        let left = made(alloc, &config, usage, &leaf)?;
         assert_eq!(rt; left.as_str(), want);
+    }
+    Ok(())
+}
+
+/// A put of a value of one byte in the column `FAMILY::` of a row, or a delete.
+#[tactic(auto, unfolding(tablet_model::specs::Ingest::out_of_bounds, tablet_model::specs::Ingest::first_too_long, tablet_model::specs::Ingest::too_long))]
+fn mutation(alloc: Global, row: u8, family: u8, value: Option<u8>) -> Result<Mutation, Fail>
+    ensures { IfOk result (λ m. out_of_bounds (row_change_of m) ≡ None) }
+{
+    let value = match value {
+        Some(value) => Some(ByteText::of(alloc, &[value])?),
+        None => None,
+    };
+    let mut updates = Updates::new(alloc);
+    updates.push(Update {
+        family: ByteText::of(alloc, &[family])?,
+        qualifier: ByteText::new(alloc),
+        visibility: ByteText::new(alloc),
+        value,
+    })?;
+    let row = ByteText::of(alloc, &[row])?;
+    Ok(Mutation { row, updates })
+}
+
+/// The part in memory of some changes: row, family, time, and value of a put.
+fn part_in_memory(
+    alloc: Global,
+    changes: &[(u8, u8, i64, Option<u8>)],
+) -> Result<PartCursor, Fail> {
+    let mut map = MemMap::empty(alloc)?;
+    for (row, family, time, value) in changes {
+        let mutation = mutation(alloc, *row, *family, *value)?;
+        map = map.insert(alloc, &mutation, *time)?;
+    }
+    Ok(PartCursor::Memory(map.cursor(alloc)?))
+}
+
+/// What a compaction makes of some parts, as a part.
+fn compacted(
+    alloc: Global,
+    config: &Arc<Config>,
+    usage: Usage,
+    parts: Vec<PartCursor>,
+) -> Result<PartCursor, Fail> {
+    let merged = merged(alloc, parts.as_slice())?;
+    if usage == Usage::Scan || !are_storable(config, merged)? {
+        return Err("no compaction takes these parts".into());
+    }
+    let job = Job::new(alloc, Arc::try_clone(config)?, usage, parts)?;
+    let done = job.run(alloc)?;
+    Ok(PartCursor::File(SortedFile::cursor(alloc, done.file())?))
+}
+
+#[test]
+fn jobs_compact_memory_and_files(rt: HostRuntime) -> Result<(), Fail> {
+    let alloc = rt.alloc();
+    let config = Arc::new(alloc, read_config(alloc, DOCUMENT)?)?;
+    let older = [
+        (b'1', b's', 5, Some(b'4')),
+        (b'1', b'v', 5, Some(b'o')),
+        (b'2', b's', 3, Some(b'4')),
+        (b'2', b's', 2, Some(b'5')),
+    ];
+    let newer = [
+        (b'1', b's', 9, Some(b'1')),
+        (b'1', b's', 8, Some(b'2')),
+        (b'1', b's', 7, None),
+        (b'1', b'v', 9, Some(b'n')),
+        (b'1', b'x', 9, Some(b'g')),
+    ];
+    let older = vec![in alloc; part_in_memory(alloc, &older)?]?;
+    let file = compacted(alloc, &config, Usage::Minc, older)?;
+    assert_eq!(rt; left_in(alloc, &file)?.as_str(), "1s5=4 1v5=o 2s3=9 .");
+
+    let usages = [
+        (Usage::Minc, "1s9=3 1s7! 1v9=n 2s3=9 ."),
+        (Usage::MajcPart, "1s9=1 1s8=2 1s7! 1v9=n 1v5=o 2s3=9 ."),
+        (Usage::MajcFull, "1s9=3 1v9=n 1v5=o 2s3=9 ."),
+    ];
+    for (usage, want) in usages {
+        let parts = vec![in alloc; file.deep_copy(alloc)?, part_in_memory(alloc, &newer)?]?;
+        let file = compacted(alloc, &config, usage, parts)?;
+        assert_eq!(rt; left_in(alloc, &file)?.as_str(), want);
     }
     Ok(())
 }

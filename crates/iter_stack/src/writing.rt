@@ -22,8 +22,9 @@ pub const ALL_KEYS: Range<'static> = Range {
     end: Bound::Open,
 };
 
-/// The file of what the iterators of a configuration that run in a usage make of a source, which may have been sought or not. The
-/// configuration has to read each value of the source that is no marker's, and what is made has to fit into a file. It takes memory.
+/// The file of what the iterators of a configuration that run in a usage make of a source, which may have been sought or
+/// not. The configuration has to read each value of the source that is no marker's, and a file has to take each value of
+/// what is made. It takes memory.
 pub fn compact<S: SortedSource>(
     alloc: Global,
     config: &Config,

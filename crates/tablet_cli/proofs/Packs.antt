@@ -1,5 +1,5 @@
 -- What `pack` reads, and what it makes.
-use Rattle.std.proofs.Common.{◌≡◌, ℕ, ◌+◌, ◌≤◌, ◌||◌, ◌&&◌, not, Bool, true, false, cond, List, [], ◌∷◌, ◌++◌, length, drop, Some, None, slice_get, append-nil, refl, sym, ap, ◌∙◌, subst, arith}
+use Rattle.std.proofs.Common.{◌≡◌, ℕ, ◌+◌, ◌≤◌, ◌||◌, ◌&&◌, not, Bool, true, false, cond, List, [], ◌∷◌, length, drop, Some, slice_get, append-nil, refl, ap, ◌∙◌, arith}
 use Rattle.std.specs.Prelude.{filter}
 use Rattle.std.specs.List.{AllByRecursion, IsDistinct, list_any}
 use Rattle.std.proofs.lemmas.List.{drop_all, drop_more}
@@ -7,10 +7,9 @@ use Rattle.std.proofs.lemmas.Option.{get_or_from_slice_get, slice_get_within}
 use Rattle.tablet_model.specs.Cell.{Cell}
 use Rattle.tablet_model.specs.Kept.{kept}
 use Rattle.tablet_model.specs.Markers.{is_unmarked, live, mark, marker_beside}
-use Rattle.tablet_model.specs.Order.{above, same_column}
+use Rattle.tablet_model.specs.Order.{same_column}
 use Rattle.tablet_model.specs.Reading.{AreUnmarkedRead, IsReadBy}
-use Rattle.tablet_model.specs.Rules.{AreStorable, IsStorable, Rules}
-use Rattle.tablet_model.specs.Sorted.{Ascends, first}
+use Rattle.tablet_model.specs.Rules.{AreStorable, IsStorable}
 use Rattle.tablet_model.specs.Stages.{stages}
 use Rattle.tablet_model.proofs.Sums.{all_weaker}
 use Rattle.stage_laws.proofs.Marked.{all_live, live_plain}
@@ -22,26 +21,11 @@ use Rattle.iter_config.specs.Stages.{stages_of}
 use Rattle.iter_config.specs.declared.iter_spec.IterSpec.{IterSpec}
 use Rattle.iter_config.proofs.Prefixes.{filter_same}
 use Rattle.iter_config.proofs.Soundness.{sound}
+use Rattle.iter_stack.specs.FileValues.{HasShortValue}
 use Rattle.iter_stack.specs.Usages.{usage_cells}
 use Rattle.iter_stack.specs.declared.usage.Usage.TheVariants.{Minc, MajcFull}
-use Rattle.sorted_file.specs.Lists.{is_out_of_order, last_of, longest_value}
-use Rattle.tablet_cli.specs.Packing.{HasShortValue, is_minor_alone}
-
--- ---- the last entry of a file
-
--- the next entry of a list in order does not sort before the last one
-pub next_in_order : (list : List Cell) (e : Cell) (es : List Cell) → Ascends above (list ++ e ∷ es) → is_out_of_order (last_of list) e ≡ false
-unfolding Ascends
-next_in_order [] e es up = refl
-next_in_order (b ∷ []) e es up = up.0.0
-next_in_order (b ∷ c ∷ cs) e es up = next_in_order (c ∷ cs) e es up.1
-
-pub next_fits : (list rest : List Cell) (e : Cell) → Ascends above (list ++ rest) → Some e ≡ first rest → is_out_of_order (last_of list) e ≡ false
-next_fits list [] e up h = absurd (let k : Some e ≡ None = h in cc)
-next_fits list (x ∷ xs) e up h = next_in_order list e xs (subst (λ y. Ascends above (list ++ y ∷ xs)) (sym (same x e h)) up)
-  where
-    same : (x e : Cell) → Some e ≡ Some x → e ≡ x
-    same x e h = cc
+use Rattle.iter_stack.proofs.Stored.{short_value}
+use Rattle.tablet_cli.specs.Packing.{is_minor_alone}
 
 -- ---- which iterators are those of compactions
 
@@ -137,13 +121,6 @@ unfolding usage_cells rules_of
 major_packed specs none list = ap (λ ss. stages (stages_of ss) (live list)) (filter_same (λ s. s.scopes.majc) in_base specs (major_is_base specs none))
 
 -- ---- what it reads, and what a file takes
-
-short_value : (c : Rules) (e : Cell) → IsStorable c e → HasShortValue e
-short_value c e k = go e.key.deleted k.no_value
-  where
-    go : (d : Bool) → (d ≡ true → e.value ≡ []) → length e.value ≤ longest_value d
-    go true none = subst (λ v. length v ≤ 0) (sym (none refl)) (omega arith)
-    go false none = k.short
 
 -- all that the iterators of compactions make of a history's live entries fits into a file
 pub packed_short : (specs : List IterSpec) → IsConfig specs → (list : List Cell) → AreStorable (rules_of specs) list

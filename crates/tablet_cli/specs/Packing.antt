@@ -1,5 +1,5 @@
 -- The bytes that `pack` writes for an input. All of this is this project's own.
-use Rattle.std.specs.Prelude.{ℕ, ◌≤◌, Bool, not, ◌&&◌, List, [], ◌∷◌, ◌++◌, map, length, Option, Some, None, Result, Ok, Err}
+use Rattle.std.specs.Prelude.{ℕ, Bool, not, ◌&&◌, List, [], ◌∷◌, ◌++◌, map, length, Option, Some, None, Result, Ok, Err}
 use Rattle.tablet_model.specs.Cell.{Cell}
 use Rattle.tablet_model.specs.History.{history_entries}
 use Rattle.tablet_model.specs.Ingest as model
@@ -16,7 +16,6 @@ use Rattle.script_text.specs.Grammar.{line_of}
 use Rattle.script_text.specs.declared.line.Line.{Line}
 use Rattle.script_text.specs.declared.line.Line.TheVariants.{Mutate}
 use Rattle.sorted_file.specs.Image.{image_of}
-use Rattle.sorted_file.specs.Lists.{longest_value}
 use Rattle.tablet_cli.specs.Refusals.{config_line}
 use Rattle.tablet_cli.specs.Replay.{input_config}
 
@@ -55,7 +54,3 @@ pack_text bytes = pack_under (input_config bytes) (script_lines bytes)
 -- an iterator runs in minor compactions and not in major ones
 abbrev pub is_minor_alone : IterSpec → Bool
 is_minor_alone s = s.scopes.minc && not s.scopes.majc
-
--- the value of an entry is within the bound of a file
-abbrev pub HasShortValue : Cell → Type 0
-HasShortValue e = length e.value ≤ longest_value e.key.deleted

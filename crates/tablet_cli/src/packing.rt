@@ -1,30 +1,23 @@
 // The image that `pack` writes.
-ghost use Rattle.std.specs.Prelude.{◌≡◌, ◌++◌, [], map, IfOk, OnOk};
-ghost use Rattle.std.specs.List.{AllByRecursion, list_any};
+ghost use Rattle.std.specs.Prelude.{◌≡◌, [], map, IfOk, OnOk};
+ghost use Rattle.std.specs.List.{list_any};
 ghost use Rattle.tablet_model.specs.Ingest.{IsHistory};
-ghost use Rattle.tablet_model.specs.Order.{above};
-ghost use Rattle.tablet_model.specs.Reading.{AreUnmarkedRead};
-ghost use Rattle.tablet_model.specs.Sorted.{Ascends};
 ghost use Rattle.cell_key.specs.Mutations.{row_change_of};
 ghost use Rattle.iter_config.specs.Order.{IsConfig};
 ghost use Rattle.iter_config.specs.RulesOf.{rules_of};
-ghost use Rattle.iter_config.specs.Stages.{stages_of};
-ghost use Rattle.iter_stack.specs.Usages.{usage_cells};
 ghost use Rattle.script_text.specs.Grammar.{line_of};
 ghost use Rattle.script_text.specs.Lines.{lines_of};
 ghost use Rattle.sorted_file.specs.Image.{image_of};
-ghost use Rattle.tablet_cli.specs.Packing.{HasShortValue, history_after, history_behind, is_minor_alone, packed};
+ghost use Rattle.tablet_cli.specs.Packing.{history_after, history_behind, is_minor_alone, packed};
 
 use crate::history::History;
 use crate::scan::source_over;
-use crate::showing::ALL_KEYS;
 use cell_key::{ByteText, NoMemory};
 use delete_iter::LiveIter;
 use iter_config::{Config, IterSpec};
-use iter_contract::SortedSource;
-use iter_stack::{Usage, build};
+use iter_stack::{Usage, compact};
 use script_text::{Line, LineError, Lines, parse_line};
-use sorted_file::{FileBuilder, SortedFile};
+use sorted_file::SortedFile;
 use std::alloc::Global;
 
 /// The image of what the iterators of compactions make of the mutations of a script.
@@ -100,50 +93,7 @@ fn packed(alloc: Global, config: &Config, history: &History) -> Result<SortedFil
     let source = source_over(alloc, entries)?;
     if has_minor_alone(config) {
         let live = LiveIter::new(alloc, source)?;
-        return compacted(alloc, config, Usage::Minc, live);
+        return compact(alloc, config, Usage::Minc, live);
     }
-    compacted(alloc, config, Usage::MajcFull, source)
-}
-
-/// The file that a compaction makes of a source.
-fn compacted<S: SortedSource>(
-    alloc: Global,
-    config: &Config,
-    usage: Usage,
-    source: S,
-) -> Result<SortedFile, NoMemory>
-    requires valid { S.valid source }
-    requires read { AreUnmarkedRead (stages_of config.now) (S.cells source) }
-    requires short { AllByRecursion HasShortValue (usage_cells config.now usage (S.cells source)) }
-    ensures { IfOk result (λ file. file ≡ usage_cells config.now usage (S.cells source)) }
-{
-    let stack = build(alloc, config, usage, source)?;
-    file_of(alloc, stack)
-}
-
-/// A file of all entries of a source.
-fn file_of<S: SortedSource>(alloc: Global, source: S) -> Result<SortedFile, NoMemory>
-    requires valid { S.valid source }
-    requires short { AllByRecursion HasShortValue (S.cells source) }
-    ensures { IfOk result (λ file. file ≡ S.cells source) }
-{
-    let mut source = source;
-    let mut builder = FileBuilder::new(alloc)?;
-    source.seek(&ALL_KEYS)?;
-    push_rest(&mut source, &mut builder)?;
-    builder.finish()
-}
-
-/// Puts the entries that a source has left at the end of a file.
-fn push_rest<S: SortedSource>(source: &mut S, builder: &mut FileBuilder) -> Result<(), NoMemory>
-    requires valid { S.valid source.old }
-    requires order { Ascends above (builder.old ++ S.rest source.old) }
-    requires short { AllByRecursion HasShortValue (S.rest source.old) }
-    ensures { OnOk result (builder.new ≡ builder.old ++ S.rest source.old) }
-{
-    while let Some(entry) = source.top() {
-        builder.push(entry)?;
-        source.next()?;
-    }
-    Ok(())
+    compact(alloc, config, Usage::MajcFull, source)
 }

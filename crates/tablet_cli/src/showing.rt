@@ -5,18 +5,13 @@ ghost use Rattle.script_text.specs.Answers.{entry_lines};
 ghost use Rattle.tablet_cli.specs.Showing.{shown};
 
 use crate::scan::append_lines;
-use cell_key::{Bound, ByteText, NoMemory, Range};
+use cell_key::{ByteText, NoMemory};
 use iter_contract::SortedSource;
+use iter_stack::ALL_KEYS;
 use script_text::append_count;
 use sorted_file::SortedFile;
 use std::alloc::Global;
 use std::sync::Arc;
-
-/// All keys.
-pub const ALL_KEYS: Range<'static> = Range {
-    start: Bound::Open,
-    end: Bound::Open,
-};
 
 /// The entries of a file, line by line, and how many they are.
 pub fn shown(alloc: Global, file: Arc<SortedFile>) -> Result<ByteText, NoMemory>

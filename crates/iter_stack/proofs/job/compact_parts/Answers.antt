@@ -1,4 +1,4 @@
-use Rattle.std.proofs.Common.{◌≡◌, IfOk, sym, subst}
+use Rattle.std.proofs.Common.{sym, subst}
 use Rattle.std.specs.List.{AllByRecursion}
 use Rattle.tablet_model.specs.Reading.{AreUnmarkedRead}
 use Rattle.iter_config.specs.Stages.{stages_of}
@@ -18,7 +18,3 @@ compact-requires-clause-short c =
     let specs = c.args.config.now in
     subst (λ list. AllByRecursion HasShortValue (usage_cells specs c.args.usage list)) (sym c.in_ok-merged.ensures.cells)
     (usage_short specs c.count.ensures.rules c.args.usage c.requires.compacts (union_of c.args.parts.now) c.requires.storable)
-
-pub returns : goal.returns
-returns c =
-    subst (λ list. IfOk c.compact.result (λ file. file ≡ usage_cells c.args.config.now c.args.usage list)) c.in_ok-merged.ensures.cells c.compact.ensures

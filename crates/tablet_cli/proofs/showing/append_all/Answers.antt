@@ -1,6 +1,6 @@
 use Rattle.std.proofs.Common.{◌≡◌, ◌++◌, OnOk, subst, ◌∙◌}
 use Rattle.script_text.specs.Answers.{entry_lines}
-use Rattle.tablet_cli.proofs.Scans.{within_all}
+use Rattle.iter_stack.proofs.Written.{within_all}
 use Rattle.tablet_cli.proofs.showing.append_all.Goals as goal
 
 pub returns : goal.returns
