@@ -5,3 +5,4 @@ pub mod FamilyPass
 pub mod OtherFiles
 pub mod Scans
 pub mod Parts
+pub mod Inputs
