@@ -4,3 +4,5 @@ pub mod Orders
 pub mod FamilyPass
 pub mod OtherFiles
 pub mod Scans
+pub mod Parts
+pub mod Inputs

@@ -2,7 +2,7 @@
 use Rattle.std.proofs.Common.{◌≡◌, ℕ, ◌+◌, ◌<◌, ◌≤◌, List, [], ◌∷◌, ◌++◌, length, refl, sym, ◌∙◌, le_refl, arith, append-nil}
 use Rattle.tablet_model.specs.Cell.{Cell}
 use Rattle.tablet_model.specs.History.{RowChange}
-use Rattle.tablet_view.specs.Extending.{BeginsWith, Extends}
+use Rattle.tablet_view.specs.Extending.{Extends}
 use Rattle.tablet_view.specs.Snapshot.{Snapshot, applied, flushed, frozen, replaced}
 use Rattle.tablet_view.proofs.Logs.{begins_length, begins_refl, begins_trans}
 

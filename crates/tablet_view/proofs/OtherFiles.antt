@@ -1,8 +1,16 @@
--- The files of other numbers, one by one.
-use Rattle.std.proofs.Common.{◌≡◌, ℕ, ◌+◌, ◌<◌, Bool, true, false, not, cond, List, [], ◌∷◌, ◌++◌, map, length, take, get_or, refl, sym, ap, ◌∙◌, append-nil}
+-- Stored files, and those of other numbers, one by one.
+use Rattle.std.proofs.Common.{◌≡◌, ℕ, ◌+◌, ◌<◌, true, false, not, cond, List, [], ◌∷◌, ◌++◌, map, length, take, get_or, refl, sym, ap, ◌∙◌, append-nil}
 use Rattle.std.proofs.lemmas.List.{map-append, take_more}
 use Rattle.std.proofs.lemmas.List.Elements.{filter-append}
+use Rattle.std.specs.Arc.{arc_value}
 use Rattle.tablet_model.specs.Store.{File, has_id, unnamed}
+use Rattle.tablet_view.specs.FileParts.{file_of}
+use Rattle.tablet_view.specs.declared.files.StoredFile.{StoredFile}
+
+-- a file of the model has the entries of the stored one
+pub file_cells : (files : List StoredFile) → map (λ f. arc_value f.file) files ≡ map (λ f. f.cells) (map file_of files)
+file_cells [] = refl
+file_cells (f ∷ fs) = ap (λ l. arc_value f.file ∷ l) (file_cells fs)
 
 -- of no numbers, none is named
 pub none_named : (files : List File) → unnamed [] files ≡ files

@@ -1,5 +1,5 @@
 -- What a scan of a snapshot's entries reads, and what it answers.
-use Rattle.std.proofs.Common.{◌≡◌, ℕ, ◌+◌, ◌<◌, List, [], ◌∷◌, Option, refl, sym, ap, ◌∙◌, arith}
+use Rattle.std.proofs.Common.{◌≡◌, ℕ, ◌+◌, ◌<◌, List, [], ◌∷◌, Option, sym, ap, ◌∙◌, arith}
 use Rattle.tablet_model.specs.Answers.{answer, scan_of}
 use Rattle.tablet_model.specs.Cuts.{Span, within}
 use Rattle.tablet_model.specs.Families.{in_families, is_in}

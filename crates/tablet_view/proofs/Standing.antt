@@ -1,11 +1,11 @@
 -- Each next snapshot stands for its log.
-use Rattle.std.proofs.Common.{◌≡◌, ℕ, Bool, true, false, List, [], ◌∷◌, ◌++◌, length, None, unwrap_or, inl, inr, refl, sym, ap, ◌∙◌, length-append}
+use Rattle.std.proofs.Common.{◌≡◌, ℕ, Bool, true, false, List, [], ◌∷◌, ◌++◌, None, unwrap_or, inl, inr, refl, sym, ap, length-append}
 use Rattle.tablet_model.specs.Cell.{Cell}
-use Rattle.tablet_model.specs.Compactions.{full_compaction, minor_compaction, partial_compaction}
+use Rattle.tablet_model.specs.Compactions.{minor_compaction}
 use Rattle.tablet_model.specs.History.{RowChange}
 use Rattle.tablet_model.specs.Stands.{AreBelow, StandsInParts}
 use Rattle.tablet_model.specs.Steps.{made_by, without_job}
-use Rattle.tablet_model.specs.Store.{RunningJob, Store, empty_store, frozen_of, input_of, unnamed}
+use Rattle.tablet_model.specs.Store.{empty_store, frozen_of, unnamed}
 use Rattle.stage_laws.proofs.Standing.{stands_applied, stands_flushed, stands_frozen}
 use Rattle.stage_laws.proofs.StandingJobs.{stands_replaced}
 use Rattle.stage_laws.proofs.StandingSteps.{empty_stands, parts_same}

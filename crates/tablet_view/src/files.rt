@@ -1,9 +1,11 @@
 ghost use Rattle.std.specs.Prelude.{◌≡◌, ◌<◌, [], ◌∷◌, ◌++◌, Some, length, map, slice_get, IfOk};
 ghost use Rattle.std.specs.Arc.{arc_value};
 ghost use Rattle.tablet_model.specs.Store.{unnamed};
+ghost use Rattle.iter_stack.specs.PartCells.{part_cells};
 ghost use Rattle.tablet_view.specs.FileParts.{file_of};
 
 use cell_key::{FileIds, NoMemory};
+use iter_stack::PartCursor;
 use sorted_file::SortedFile;
 use std::alloc::Global;
 use std::marker::Model;
@@ -68,6 +70,18 @@ impl Files {
         let file = Arc::try_clone(file)?;
         files.push(StoredFile { id, file })?;
         Ok(Files { files })
+    }
+
+    /// Sources of the entries of each file.
+    pub(crate) fn cursors(&self, alloc: Global) -> Result<Vec<PartCursor>, NoMemory>
+        ensures { IfOk result (λ cursors. map part_cells cursors.items ≡ map (λ f. f.cells) self.now) }
+    {
+        let mut cursors = Vec::new(alloc);
+        for stored in &self.files {
+            let cursor = SortedFile::cursor(alloc, &stored.file)?;
+            cursors.push(PartCursor::File(cursor))?;
+        }
+        Ok(cursors)
     }
 
     /// How many files there are.
