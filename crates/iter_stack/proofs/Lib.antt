@@ -2,4 +2,6 @@ pub mod Alike
 pub mod Steps
 pub mod Runs
 pub mod Taken
+pub mod Stored
+pub mod Written
 pub mod ExampleReads

@@ -5,5 +5,6 @@ pub mod Levels
 pub mod Stacks
 pub mod Places
 pub mod PartCells
+pub mod FileValues
 pub mod Jobs
 pub mod Examples

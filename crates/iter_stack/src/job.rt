@@ -1,15 +1,20 @@
-ghost use Rattle.std.specs.Prelude.{◌≡◌, IfOk};
+ghost use Rattle.std.specs.Prelude.{◌≡◌, ⊤, map, IfOk};
 ghost use Rattle.std.specs.Arc.{arc_value};
 ghost use Rattle.tablet_model.specs.Rules.{AreStorable};
 ghost use Rattle.iter_config.specs.RulesOf.{rules_of};
-ghost use Rattle.iter_stack.specs.PartCells.{union_of};
+ghost use Rattle.merge_iter.specs.MergeParts.{merge_cells, merge_valid};
+ghost use Rattle.iter_stack.specs.PartCells.{part_cells, part_rest, union_of};
 ghost use Rattle.iter_stack.specs.Jobs.{compacted};
+ghost use Rattle.iter_stack.specs.Usages.{usage_cells};
 ghost use Rattle.iter_stack.specs.declared.usage.Usage.TheVariants.{Scan};
 
 use crate::part_cursor::PartCursor;
 use crate::usage::Usage;
+use crate::writing::compact;
 use cell_key::NoMemory;
 use iter_config::Config;
+use iter_contract::SortedSource;
+use merge_iter::MergeIter;
 use sorted_file::SortedFile;
 use std::alloc::Global;
 use std::marker::Model;
@@ -100,11 +105,16 @@ impl Job {
     }
 
     /// The job done: the file of what the configured iterators make of its input. It takes memory.
-    pub fn run(&self, _alloc: Global) -> Result<DoneJob, NoMemory>
+    pub fn run(&self, alloc: Global) -> Result<DoneJob, NoMemory>
         ensures { IfOk result (λ done. done ≡ self.now) }
     {
-        let _ = &self.usage;
-        Err(NoMemory)
+        let file = compact_parts(alloc, &self.config, self.usage, self.parts.as_slice())?;
+        Ok(DoneJob {
+            config: Arc::try_clone(&self.config)?,
+            usage: self.usage,
+            parts: Arc::try_clone(&self.parts)?,
+            file: Arc::new(alloc, file)?,
+        })
     }
 }
 
@@ -115,4 +125,41 @@ impl DoneJob {
     {
         &self.file
     }
+}
+
+/// The file that a compaction of some parts makes.
+fn compact_parts(
+    alloc: Global,
+    config: &Config,
+    usage: Usage,
+    parts: &[PartCursor],
+) -> Result<SortedFile, NoMemory>
+    requires compacts { ¬ (usage ≡ Scan) }
+    requires storable { AreStorable (rules_of config.now) (union_of parts.now) }
+    ensures { IfOk result (λ file. file ≡ usage_cells config.now usage (union_of parts.now)) }
+{
+    // The configuration is accepted, so that its compactions keep what a store may have.
+    prove!(config.count() <= 16);
+    let merged = merged(alloc, parts)?;
+    compact(alloc, config, usage, merged)
+}
+
+/// A source of the entries of some parts in one order.
+fn merged(alloc: Global, parts: &[PartCursor]) -> Result<MergeIter<PartCursor>, NoMemory>
+    ensures cells { IfOk result (λ it. merge_cells part_cells it ≡ union_of parts.now) }
+    ensures valid { IfOk result (merge_valid part_rest (λ _. ⊤)) }
+{
+    let copies = copies(alloc, parts)?;
+    MergeIter::new(alloc, copies)
+}
+
+/// A deep copy of each part's cursor.
+fn copies(alloc: Global, parts: &[PartCursor]) -> Result<Vec<PartCursor>, NoMemory>
+    ensures { IfOk result (λ copies. map part_cells copies.items ≡ map part_cells parts.now) }
+{
+    let mut copies = Vec::with_capacity(alloc, parts.len())?;
+    for part in parts {
+        copies.push(part.deep_copy(alloc)?)?;
+    }
+    Ok(copies)
 }

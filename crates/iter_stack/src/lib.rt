@@ -11,6 +11,7 @@ mod stack;
 mod stage;
 mod usage;
 mod walking;
+mod writing;
 
 pub use building::build;
 pub use job::{DoneJob, Job};
@@ -18,6 +19,7 @@ pub use part_cursor::PartCursor;
 pub use stack::Stack;
 pub use usage::Usage;
 pub use walking::walk_to_end;
+pub use writing::{ALL_KEYS, compact};
 
 #[cfg(test)]
 mod tests;

@@ -1,5 +1,5 @@
 -- A snapshot of a tablet's parts, what it stands for, and what follows it. All of this is this project's own.
-use Rattle.std.specs.Prelude.{◌≡◌, ℕ, ◌+◌, ◌⊎◌, pos, List, [], ◌∷◌, ◌++◌, length, Option, Some, None, unwrap_or}
+use Rattle.std.specs.Prelude.{◌≡◌, ℕ, ◌+◌, ◌⊎◌, pos, List, [], ◌∷◌, ◌++◌, length, Option, Some, None}
 use Rattle.tablet_model.specs.Cell.{Cell}
 use Rattle.tablet_model.specs.Compactions.{partial_compaction, full_compaction}
 use Rattle.tablet_model.specs.History.{RowChange, entries_of}

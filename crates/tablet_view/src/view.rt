@@ -1,4 +1,4 @@
-ghost use Rattle.std.specs.Prelude.{◌≡◌, ◌↔◌, ◌<◌, ◌^◌, true, [], Some, None, length, slice_get, option_map, unwrap_or, IsTrue, IsSome, IfOk, MatchResult};
+ghost use Rattle.std.specs.Prelude.{◌≡◌, ◌↔◌, ◌<◌, ◌^◌, true, [], ◌∷◌, ◌++◌, Some, None, length, map, slice_get, option_map, unwrap_or, IsTrue, IsSome, IfOk, OnOk, MatchResult};
 ghost use Rattle.std.specs.Arc.{arc_value};
 ghost use Rattle.tablet_model.specs.Answers.{answer};
 ghost use Rattle.tablet_model.specs.Compactions.{minor_compaction};
@@ -12,7 +12,7 @@ ghost use Rattle.iter_config.specs.RulesOf.{rules_of};
 ghost use Rattle.iter_config.specs.Stages.{stages_of};
 ghost use Rattle.iter_contract.specs.Copies.{IsCopy};
 ghost use Rattle.iter_stack.specs.Jobs.{compacted};
-ghost use Rattle.iter_stack.specs.PartCells.{part_cells};
+ghost use Rattle.iter_stack.specs.PartCells.{part_cells, union_of};
 ghost use Rattle.iter_stack.specs.Usages.{usage_cells};
 ghost use Rattle.iter_stack.specs.declared.usage.Usage.TheVariants.{Scan};
 ghost use Rattle.tablet_view.specs.Extending.{BeginsWith};
@@ -28,6 +28,7 @@ use cell_key::{Families, FileIds, Mutation, NoMemory};
 use iter_config::Config;
 use iter_stack::{DoneJob, PartCursor};
 use memory_map::MemMap;
+use sorted_file::SortedFile;
 use std::alloc::Global;
 use std::marker::Model;
 use std::sync::Arc;
@@ -58,56 +59,111 @@ impl Model for View {
 
 impl View {
     /// The view of no mutations. It takes memory.
-    pub fn open(_alloc: Global, config: Arc<Config>) -> Result<View, NoMemory>
+    pub fn open(alloc: Global, config: Arc<Config>) -> Result<View, NoMemory>
         ensures { IfOk result (λ view. view ≡ empty_snapshot (arc_value config)) }
     {
-        let _ = config;
-        Err(NoMemory)
+        // What `count` says of every configuration, the new view keeps.
+        let _ = config.count();
+        let log = Arc::new(alloc, Log::new(alloc))?;
+        let files = Arc::new(alloc, Files::new(alloc))?;
+        let memory = Arc::new(alloc, MemMap::empty(alloc)?)?;
+        Ok(View {
+            config,
+            log,
+            files,
+            frozen: None,
+            memory,
+            version: 0,
+        })
     }
 
     /// The view where a mutation came in, at the end of the log, or why it stays out: the first broken check, in the order of
     /// [`Refused`](ingest::Refused). It takes memory only where no check is broken.
-    pub fn apply(&self, _alloc: Global, mutation: &Mutation) -> Result<View, ApplyError>
+    pub fn apply(&self, alloc: Global, mutation: &Mutation) -> Result<View, ApplyError>
         requires { self.now.version < 2 ^ 63 }
         ensures { MatchResult result
             (λ view. (refused_by self.now (row_change_of mutation.now) ≡ None)
                 × (view ≡ applied self.now (row_change_of mutation.now)))
             (λ error. refused_by self.now (row_change_of mutation.now) ≡ refusal_in error) }
     {
-        match ingest::check(&self.config, self.log.len() as u64, mutation) {
-            Some(refused) => Err(ApplyError::Refused(refused)),
-            None => Err(ApplyError::NoMemory),
+        if let Some(refused) = ingest::check(&self.config, self.log.len() as u64, mutation) {
+            return Err(ApplyError::Refused(refused));
         }
+        Ok(self.with_mutation(alloc, mutation)?)
+    }
+
+    /// The view where a mutation that breaks no check came in.
+    fn with_mutation(&self, alloc: Global, mutation: &Mutation) -> Result<View, NoMemory>
+        requires version { self.now.version < 2 ^ 63 }
+        requires free { refused_by self.now (row_change_of mutation.now) ≡ None }
+        ensures { IfOk result (λ view. view ≡ applied self.now (row_change_of mutation.now)) }
+    {
+        let config = Arc::try_clone(&self.config)?;
+        let log = Arc::new(alloc, self.log.with(alloc, mutation)?)?;
+        let files = Arc::try_clone(&self.files)?;
+        let frozen = shared(&self.frozen)?;
+        let time = self.log.len() as i64 + 1;
+        let memory = Arc::new(alloc, self.memory.insert(alloc, mutation, time)?)?;
+        Ok(View {
+            config,
+            log,
+            files,
+            frozen,
+            memory,
+            version: self.version + 1,
+        })
     }
 
     /// The view where the memory became the frozen part. It takes memory.
-    pub fn freeze(&self, _alloc: Global) -> Result<View, NoMemory>
+    pub fn freeze(&self, alloc: Global) -> Result<View, NoMemory>
         requires version { self.now.version < 2 ^ 63 }
         requires free { self.now.frozen ≡ None }
         ensures { IfOk result (λ view. view ≡ frozen self.now) }
     {
-        let _ = &self.version;
-        Err(NoMemory)
+        let config = Arc::try_clone(&self.config)?;
+        let log = Arc::try_clone(&self.log)?;
+        let files = Arc::try_clone(&self.files)?;
+        let frozen = Arc::try_clone(&self.memory)?;
+        let memory = Arc::new(alloc, MemMap::empty(alloc)?)?;
+        Ok(View {
+            config,
+            log,
+            files,
+            frozen: Some(frozen),
+            memory,
+            version: self.version + 1,
+        })
     }
 
     /// The view where the file of a job stands in the place of the frozen part, whose minor compaction it has to be. The file's
     /// number is above those of all files. It takes memory.
-    pub fn install_flush(&self, _alloc: Global, id: u64, done: &DoneJob) -> Result<View, NoMemory>
+    pub fn install_flush(&self, alloc: Global, id: u64, done: &DoneJob) -> Result<View, NoMemory>
         requires version { self.now.version < 2 ^ 63 }
         requires frozen { IsSome self.now.frozen }
         requires above { AreBelow id self.now.files }
         requires made { compacted done.now ≡ minor_compaction (rules_of self.now.config).minor (unwrap_or self.now.frozen []) }
         ensures { IfOk result (λ view. view ≡ flushed self.now id (compacted done.now)) }
     {
-        let _ = (&self.version, id, done);
-        Err(NoMemory)
+        let config = Arc::try_clone(&self.config)?;
+        let log = Arc::try_clone(&self.log)?;
+        let files = self.files.with(alloc, &FileIds::new(alloc), id, done.file())?;
+        let files = Arc::new(alloc, files)?;
+        let memory = Arc::try_clone(&self.memory)?;
+        Ok(View {
+            config,
+            log,
+            files,
+            frozen: None,
+            memory,
+            version: self.version + 1,
+        })
     }
 
     /// The view where the file of a job stands in the place of the files of some numbers, whose partial compaction it has to be,
     /// or whose full one where all other parts are newer. The file's number is above those of all files. It takes memory.
     pub fn install_major(
         &self,
-        _alloc: Global,
+        alloc: Global,
         ids: &FileIds,
         id: u64,
         done: &DoneJob,
@@ -117,13 +173,24 @@ impl View {
         requires made { IsMajorOf self.now ids.now (compacted done.now) }
         ensures { IfOk result (λ view. view ≡ replaced self.now ids.now id (compacted done.now)) }
     {
-        let _ = (&self.version, ids, id, done);
-        Err(NoMemory)
+        let config = Arc::try_clone(&self.config)?;
+        let log = Arc::try_clone(&self.log)?;
+        let files = Arc::new(alloc, self.files.with(alloc, ids, id, done.file())?)?;
+        let frozen = shared(&self.frozen)?;
+        let memory = Arc::try_clone(&self.memory)?;
+        Ok(View {
+            config,
+            log,
+            files,
+            frozen,
+            memory,
+            version: self.version + 1,
+        })
     }
 
     /// A source of the entries of all parts in some families. A stack for scans over it answers what the log answers. It takes
     /// memory.
-    pub fn source(&self, _alloc: Global, families: &Families) -> Result<ViewSource, NoMemory>
+    pub fn source(&self, alloc: Global, families: &Families) -> Result<ViewSource, NoMemory>
         ensures source { IfOk result (λ source. IsCopy (in_families families.now (entries_in self.now)) true
             (source_cells source) (source_rest source) true (source_valid source)) }
         ensures read { AreUnmarkedRead (stages_of self.now.config) (in_families families.now (entries_in self.now)) }
@@ -131,8 +198,28 @@ impl View {
             within range (usage_cells self.now.config Scan (in_families families.now (entries_in self.now)))
             ≡ answer (stages (stages_of self.now.config)) range families.now self.now.log }
     {
-        let _ = (&self.version, families);
-        Err(NoMemory)
+        ViewSource::new(alloc, self.parts(alloc)?, families)
+    }
+
+    /// Sources of the entries of each part.
+    fn parts(&self, alloc: Global) -> Result<Vec<PartCursor>, NoMemory>
+        ensures union { IfOk result (λ parts. union_of parts.items ≡ entries_in self.now) }
+        ensures stands { IsStanding self.now }
+    {
+        let mut parts = self.files.cursors(alloc)?;
+        if let Some(frozen) = &self.frozen {
+            push_part(alloc, &mut parts, frozen)?;
+        }
+        push_part(alloc, &mut parts, &self.memory)?;
+        Ok(parts)
+    }
+
+    /// Whether this view has the other's configuration, and all mutations of the other came in first, in the same order. It
+    /// takes no memory.
+    pub fn begins_with(&self, other: &View) -> bool
+        ensures { IsTrue result ↔ ((self.now.config ≡ other.now.config) × BeginsWith self.now.log other.now.log) }
+    {
+        self.config.same(&other.config) && self.log.begins_with(&other.log)
     }
 
     /// The number of mutations that came in. It takes no memory.
@@ -192,20 +279,41 @@ impl View {
     }
 
     /// A source of the entries of the frozen part. It takes memory.
-    pub fn frozen_cursor(&self, _alloc: Global) -> Result<PartCursor, NoMemory>
+    pub fn frozen_cursor(&self, alloc: Global) -> Result<PartCursor, NoMemory>
         requires { IsSome self.now.frozen }
         ensures { IfOk result (λ cursor. Some (part_cells cursor) ≡ self.now.frozen) }
     {
-        let _ = &self.version;
-        Err(NoMemory)
+        let Some(frozen) = &self.frozen else {
+            unreachable!()
+        };
+        Ok(PartCursor::Memory(frozen.cursor(alloc)?))
     }
 
     /// A source of the entries of the file at place `i`. It takes memory.
-    pub fn file_cursor(&self, _alloc: Global, i: usize) -> Result<PartCursor, NoMemory>
+    pub fn file_cursor(&self, alloc: Global, i: usize) -> Result<PartCursor, NoMemory>
         requires { i < length self.now.files }
         ensures { IfOk result (λ cursor. Some (part_cells cursor) ≡ option_map (λ file. file.cells) (slice_get self.now.files i)) }
     {
-        let _ = (&self.version, i);
-        Err(NoMemory)
+        let stored = self.files.get(i);
+        let cursor = SortedFile::cursor(alloc, &stored.file)?;
+        Ok(PartCursor::File(cursor))
     }
+}
+
+/// The same part, shared, if there is one.
+fn shared(part: &Option<Arc<MemMap>>) -> Result<Option<Arc<MemMap>>, NoMemory>
+    ensures { IfOk result (λ copy. option_map (λ m. arc_value m) copy ≡ option_map (λ m. arc_value m) part.now) }
+{
+    match part {
+        Some(map) => Ok(Some(Arc::try_clone(map)?)),
+        None => Ok(None),
+    }
+}
+
+/// Puts a source of a part's entries behind others.
+fn push_part(alloc: Global, parts: &mut Vec<PartCursor>, part: &MemMap) -> Result<(), NoMemory>
+    ensures { OnOk result (map part_cells parts.new.items ≡ map part_cells parts.old.items ++ part.now ∷ []) }
+{
+    parts.push(PartCursor::Memory(part.cursor(alloc)?))?;
+    Ok(())
 }

@@ -1,14 +1,39 @@
 #![tactic(auto, unfolding(crate::specs::Sources::source_cells, crate::specs::Sources::source_rest, crate::specs::Sources::source_valid))]
 
-use cell_key::{EntryRef, NoMemory, Range};
-use iter_contract::{SortedSource, VecSource};
+use crate::family_iter::FamilyIter;
+use cell_key::{EntryRef, Families, NoMemory, Range};
+use iter_contract::SortedSource;
+use iter_stack::PartCursor;
+use merge_iter::MergeIter;
 use std::alloc::Global;
 
 /// A source of the entries that a [`View`](crate::View) has in some families: those of all its parts, in one order. It is
 /// steady, and so are its deep copies.
 #[derive(Drop)]
 pub struct ViewSource {
-    source: VecSource,
+    source: FamilyIter<MergeIter<PartCursor>>,
+}
+
+impl ViewSource {
+    ghost use Rattle.std.specs.Prelude.{true, IfOk};
+    ghost use Rattle.tablet_model.specs.Families.{in_families};
+    ghost use Rattle.iter_contract.specs.Copies.{IsCopy};
+    ghost use Rattle.iter_stack.specs.PartCells.{union_of};
+    ghost use Rattle.tablet_view.specs.Sources.{source_cells, source_rest, source_valid};
+
+    /// A source of the entries of some parts in some families.
+    pub(crate) fn new(
+        alloc: Global,
+        parts: Vec<PartCursor>,
+        families: &Families,
+    ) -> Result<ViewSource, NoMemory>
+        ensures { IfOk result (λ source. IsCopy (in_families families.now (union_of parts.items)) true
+            (source_cells source) (source_rest source) true (source_valid source)) }
+    {
+        let merged = MergeIter::new(alloc, parts)?;
+        let source = FamilyIter::new(alloc, merged, families)?;
+        Ok(ViewSource { source })
+    }
 }
 
 impl SortedSource for ViewSource {

@@ -1,0 +1,93 @@
+-- What a store may have, all iterators of its configuration read, and what compactions make of it fits into a file.
+use Rattle.std.proofs.Common.{◌≡◌, ◌≤◌, Bool, true, false, not, cond, List, [], ◌∷◌, length, refl, sym, subst, arith}
+use Rattle.std.specs.Prelude.{filter}
+use Rattle.std.specs.List.{AllByRecursion}
+use Rattle.tablet_model.specs.Cell.{Cell}
+use Rattle.tablet_model.specs.Compactions.{partial_stages}
+use Rattle.tablet_model.specs.Markers.{live, mark}
+use Rattle.tablet_model.specs.Reading.{AreUnmarkedRead, IsReadBy}
+use Rattle.tablet_model.specs.Rules.{AreStorable, IsStorable, Rules}
+use Rattle.tablet_model.proofs.Sums.{all_weaker}
+use Rattle.stage_laws.proofs.Storable.{keeps_first, keeps_live, keeps_mark, keeps_partial, keeps_stages}
+use Rattle.sorted_file.specs.Lists.{longest_value}
+use Rattle.iter_config.specs.Order.{IsConfig}
+use Rattle.iter_config.specs.Rules.{in_base, is_combiner}
+use Rattle.iter_config.specs.RulesOf.{rules_of, scans_alone}
+use Rattle.iter_config.specs.Stages.{stage_of, stages_of}
+use Rattle.iter_config.specs.declared.iter_spec.IterSpec.{IterSpec}
+use Rattle.iter_config.specs.declared.iter_spec.Kind.{Kind}
+use Rattle.iter_config.specs.declared.iter_spec.Kind.TheVariants.{Filter, Versions, Combine}
+use Rattle.iter_config.proofs.Soundness.{sound}
+use Rattle.iter_stack.specs.FileValues.{HasShortValue}
+use Rattle.iter_stack.specs.Usages.{usage_cells}
+use Rattle.iter_stack.specs.declared.usage.Usage.{Usage}
+use Rattle.iter_stack.specs.declared.usage.Usage.TheVariants.{Scan, Minc, MajcPart, MajcFull}
+use Rattle.iter_stack.proofs.Taken.{filter_reads}
+
+-- ---- what is read
+
+-- an iterator that is no combiner reads each value
+plain_reads : (e : Cell) (k : Kind) → is_combiner k ≡ false → IsReadBy e (stage_of k)
+plain_reads e (Filter predicate negate) h = filter_reads e predicate negate
+plain_reads e (Versions max) h = tt
+plain_reads e (Combine op columns encoding deletes) h = absurd (let k : true ≡ false = h in cc)
+
+-- what the iterators of compactions and the other combiners read, all iterators do
+pub all_read_by : (e : Cell) (specs : List IterSpec) → AllByRecursion (IsReadBy e) (stages_of (filter in_base specs))
+    → AllByRecursion (IsReadBy e) (stages_of (filter (λ s. is_combiner s.kind) (scans_alone specs))) → AllByRecursion (IsReadBy e) (stages_of specs)
+all_read_by e [] b a = tt
+all_read_by e (s ∷ ss) b a = go (in_base s) b a (all_read_by e ss)
+  where
+    go : (d : Bool) → AllByRecursion (IsReadBy e) (stages_of (cond d (s ∷ filter in_base ss) (filter in_base ss)))
+        → AllByRecursion (IsReadBy e) (stages_of (filter (λ t. is_combiner t.kind) (cond (not d) (s ∷ scans_alone ss) (scans_alone ss))))
+        → (AllByRecursion (IsReadBy e) (stages_of (filter in_base ss)) → AllByRecursion (IsReadBy e) (stages_of (filter (λ t. is_combiner t.kind) (scans_alone ss))) → AllByRecursion (IsReadBy e) (stages_of ss))
+        → AllByRecursion (IsReadBy e) (stages_of (s ∷ ss))
+    go true b a rest = (b.0, rest b.1 a)
+    go false b a rest = at (is_combiner s.kind) refl a
+      where
+        at : (j : Bool) → is_combiner s.kind ≡ j
+            → AllByRecursion (IsReadBy e) (stages_of (cond j (s ∷ filter (λ t. is_combiner t.kind) (scans_alone ss)) (filter (λ t. is_combiner t.kind) (scans_alone ss))))
+            → AllByRecursion (IsReadBy e) (stages_of (s ∷ ss))
+        at true is a = (a.0, rest b a.1)
+        at false is a = (plain_reads e s.kind is, rest b a)
+
+one_read : (specs : List IterSpec) (e : Cell) → IsStorable (rules_of specs) e → e.key.deleted ≡ false → AllByRecursion (IsReadBy e) (stages_of specs)
+unfolding rules_of
+one_read specs e k d = all_read_by e specs (k.reads d) (k.reads_scan d)
+
+pub storable_read : (specs : List IterSpec) (list : List Cell) → AreStorable (rules_of specs) list → AreUnmarkedRead (stages_of specs) list
+storable_read specs list h = all_weaker (IsStorable (rules_of specs)) (λ e. e.key.deleted ≡ false → AllByRecursion (IsReadBy e) (stages_of specs)) (one_read specs) list h
+
+-- ---- what a file takes
+
+pub short_value : (c : Rules) (e : Cell) → IsStorable c e → HasShortValue e
+short_value c e k = go e.key.deleted k.no_value
+  where
+    go : (d : Bool) → (d ≡ true → e.value ≡ []) → length e.value ≤ longest_value d
+    go true none = subst (λ v. length v ≤ 0) (sym (none refl)) (omega arith)
+    go false none = k.short
+
+-- what a compaction makes may be in a store
+usage_storable : (specs : List IterSpec) → IsConfig specs → (usage : Usage) → ¬ (usage ≡ Scan) → (list : List Cell) → AreStorable (rules_of specs) list
+    → AreStorable (rules_of specs) (usage_cells specs usage list)
+unfolding usage_cells
+usage_storable specs config Scan compacts list h = absurd (compacts refl)
+usage_storable specs config Minc compacts list h =
+    let rules = rules_of specs in
+    let law = sound specs config in
+    keeps_stages rules rules.minor (keeps_first rules law rules.minor law.minor_first) (mark list) (keeps_mark rules list h)
+usage_storable specs config MajcPart compacts list h =
+    let rules = rules_of specs in
+    let law = sound specs config in
+    keeps_stages rules (partial_stages rules.major) (keeps_partial rules rules.major (keeps_first rules law rules.major law.major_first)) (mark list) (keeps_mark rules list h)
+usage_storable specs config MajcFull compacts list h =
+    let rules = rules_of specs in
+    let law = sound specs config in
+    keeps_stages rules rules.major (keeps_first rules law rules.major law.major_first) (live list) (keeps_live rules list h)
+
+-- so a file takes it
+pub usage_short : (specs : List IterSpec) → IsConfig specs → (usage : Usage) → ¬ (usage ≡ Scan) → (list : List Cell) → AreStorable (rules_of specs) list
+    → AllByRecursion HasShortValue (usage_cells specs usage list)
+usage_short specs config usage compacts list h =
+    let rules = rules_of specs in
+    all_weaker (IsStorable rules) HasShortValue (short_value rules) (usage_cells specs usage list) (usage_storable specs config usage compacts list h)

@@ -1,0 +1,7 @@
+use Rattle.std.proofs.Common.{◌≡◌, map, take}
+use Rattle.std.specs.Arc.{arc_value}
+use Rattle.iter_stack.specs.PartCells.{part_cells}
+use Rattle.tablet_view.proofs.files.Files.cursors.Given as goal
+
+abbrev pub invariant-loop-stored : goal.invariant-loop-stored
+invariant-loop-stored l = map part_cells l.cursors.items ≡ map (λ f. arc_value f.file) (take l.stored-index l.stored-items)
