@@ -1,37 +1,13 @@
--- Which snapshots extend which.
+-- What a look says of which snapshots extend which.
 use Rattle.std.proofs.Common.{◌≡◌, ℕ, ◌+◌, ◌<◌, ◌≤◌, List, [], ◌∷◌, ◌++◌, length, refl, sym, ap, subst, ◌∙◌, arith, append_assoc, append-nil, length-append}
 use Rattle.std.specs.Prelude.{Bool, true, false, Option, Some, None, MatchOption}
 use Rattle.std.specs.Arc.{arc_value}
 use Rattle.std.specs.declared.sync.Arc.{Arc}
 use Rattle.tablet_model.specs.History.{RowChange}
-use Rattle.tablet_view.specs.Extending.{BeginsWith, Extends}
+use Rattle.tablet_view.specs.Extending.{Extends}
 use Rattle.tablet_view.specs.Snapshot.{Snapshot}
+use Rattle.tablet_view.proofs.Orders.{extends_trans}
 use Rattle.scan_session.specs.Looks.{Found, Leads}
-
-begins_refl : (log : List RowChange) → BeginsWith log log
-begins_refl log = record { rest = []; whole = sym (append-nil log) }
-
-begins_trans : (a b d : List RowChange) → BeginsWith a b → BeginsWith b d → BeginsWith a d
-begins_trans a b d x y = record { rest = y.rest ++ x.rest; whole = x.whole ∙ ap (λ z. z ++ x.rest) y.whole ∙ append_assoc d y.rest x.rest }
-
-pub begins_longer : (a b : List RowChange) → BeginsWith a b → length b ≤ length a
-begins_longer a b x = omega (arith, ap length x.whole, length-append b x.rest)
-
--- a snapshot extends itself
-pub extends_refl : (v : Snapshot) → Extends v v
-extends_refl v = record { config = refl; log = begins_refl v.log; version = omega arith; rises = λ h. absurd (omega arith) }
-
-rises_on : (lv lu lw v u w : ℕ) → lu ≤ lv → lw ≤ lu → u ≤ v → w ≤ u → (lu < lv → u < v) → (lw < lu → w < u) → lw < lv → w < v
-rises_on lv lu lw v u w a b c d e f h = grind arith
-
--- and what a snapshot that it extends extends
-pub extends_trans : (v u w : Snapshot) → Extends v u → Extends u w → Extends v w
-extends_trans v u w a b = record {
-  config = a.config ∙ b.config;
-  log = begins_trans v.log u.log w.log a.log b.log;
-  version = omega (arith, a.version, b.version);
-  rises = rises_on _ _ _ _ _ _ (begins_longer v.log u.log a.log) (begins_longer u.log w.log b.log) a.version b.version a.rises b.rises;
-}
 
 no_rest : (a b rest : List RowChange) → a ≡ b ++ rest → (length b < length a → ⊥) → a ≡ b
 no_rest a b [] e h = e ∙ append-nil b

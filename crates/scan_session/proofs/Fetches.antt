@@ -5,8 +5,9 @@ use Rattle.tablet_model.specs.Cell.{Cell}
 use Rattle.tablet_model.specs.Order.{above}
 use Rattle.tablet_model.specs.Places.{Place, after}
 use Rattle.tablet_model.specs.Sorted.{Ascends}
+use Rattle.tablet_view.specs.Snapshot.{Snapshot}
 use Rattle.scan_session.specs.Sessions.{SessionState, IsFetch, number_of, answer_over, answers_of, left_of}
-use Rattle.scan_session.specs.Takes.{moved, taken}
+use Rattle.scan_session.specs.Takes.{Mode, moved, taken}
 use Rattle.scan_session.specs.Walks.{Walks, fetched, end_of}
 use Rattle.scan_session.specs.declared.piece.Piece.{Piece}
 use Rattle.scan_session.proofs.Walking.{fetches_are_walks, rest_left}
@@ -26,6 +27,24 @@ fetch_is m p s rest n given end up rest_is n_is given_is place_is end_is =
       place = place;
       ended = end_is (left_of s) left ∙ ap (λ k. end_of k (left_of s)) n_is;
     }
+
+-- where a session goes on over a view that it found, behind the place that it came to
+pub fetch_over : (m : ℕ) (old new : SessionState) (view found : Snapshot) (mode : Mode) (place : Place) (rest : List Cell) (n : ℕ) (given : List Piece) (end : Option ℕ)
+    → new ≡ record old { view = view; place = place } → mode ≡ old.mode → found ≡ view
+    → Ascends above (answer_over (record old { view = found }) found.log) → rest ≡ left_of (record old { view = found }) → n ≡ length view.log
+    → given ≡ fetched mode m n rest → place ≡ moved mode old.place (taken mode m rest)
+    → ((left : List Cell) → rest ≡ taken mode m rest ++ left → end ≡ end_of n left) → IsFetch m old.place new given end
+fetch_over m old new view found mode place rest n given end new_is mode_is found_is up rest_is n_is given_is place_is end_is =
+    let s : SessionState = record old { view = view; place = place } in
+    let P : Snapshot → Type 0 = λ v. Ascends above (answer_over (record old { view = v }) v.log) in
+    subst (λ t. IsFetch m old.place t given end) (sym new_is)
+      (fetch_is m old.place s rest n given end
+        (subst P found_is up)
+        (rest_is ∙ ap (λ v. left_of (record old { view = v })) found_is)
+        n_is
+        (given_is ∙ ap (λ k. fetched k m n rest) mode_is)
+        (place_is ∙ ap (λ k. moved k old.place (taken k m rest)) mode_is)
+        (λ left e. end_is left (subst (λ k. rest ≡ taken k m rest ++ left) (sym mode_is) e)))
 
 -- a fetch goes on with a walk over the log of the view
 pub fetch_walks : (m : ℕ) (p : Place) (s : SessionState) (pieces : List Piece) (ended : Option ℕ) (n : ℕ) → IsFetch m p s pieces ended → n ≤ number_of s
