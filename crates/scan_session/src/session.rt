@@ -172,11 +172,11 @@ impl Session {
     }
 
     /// Goes on over a view and behind a position, where there is one.
-    fn go_on(&mut self, view: Arc<View>, position: Option<Position>)
+    fn go_on(&mut self, found: Arc<View>, position: Option<Position>)
         requires { ForSome position IsAtMostRow }
-        ensures { self.new ≡ record self.old { view = arc_value view; place = place_behind position self.old.place } }
+        ensures { self.new ≡ record self.old { view = arc_value found; place = place_behind position self.old.place } }
     {
-        self.view = view;
+        self.view = found;
         if let Some(position) = position {
             self.position = position;
         }
