@@ -26,13 +26,13 @@ same_test : (m n : ℕ) (t : Bool) → (eqb (m - n) 0 && t) ≡ (nat_le m n && t
 same_test m n t = grind arith
 
 -- the run ends before the next entry
-pub run_ends : (mode : Mode) (m : ℕ) (run list whole : List Cell) (x : Cell) → Some x ≡ first list → may_end mode m run x ≡ true
+pub run_ends : (mode : Mode) (m : ℕ) (run list whole : List Cell) (x : Cell) → Some x ≡ first list → true ≡ may_end mode m run x
     → taken_with mode m run list ≡ whole → run ≡ whole
 unfolding may_end taken_behind
 run_ends mode m run [] whole x f h e = absurd (cc)
 run_ends mode m [] (y ∷ ys) whole x f h e = absurd (cc)
 run_ends mode m (e ∷ es) (y ∷ ys) whole x f h t =
-    let ends : may_end mode m (e ∷ es) y ≡ true = subst (λ z. may_end mode m (e ∷ es) z ≡ true) (some_same x y f) h in
+    let ends : may_end mode m (e ∷ es) y ≡ true = subst (λ z. may_end mode m (e ∷ es) z ≡ true) (some_same x y f) (sym h) in
     sym (ap (λ b. (e ∷ es) ++ cond b [] (y ∷ taken_behind mode (m - suc (length es) - 1) y ys)) (same_test m (suc (length es)) (not (together mode (last_of e es) y)) ∙ ends)
     ∙ append-nil (e ∷ es))
     ∙ t
@@ -50,17 +50,22 @@ joins mode m (e ∷ es) x xs h =
     fewer : m - suc (length (es ++ x ∷ [])) ≡ m - suc (length es) - 1
     fewer = omega (arith, length-append es (x ∷ []))
 
-pub run_goes_on : (mode : Mode) (m : ℕ) (run list whole : List Cell) (x : Cell) → Some x ≡ first list → may_end mode m run x ≡ false
-    → taken_with mode m run list ≡ whole → taken_with mode m (run ++ x ∷ []) (later list) ≡ whole
-run_goes_on mode m run [] whole x f h t = absurd (cc)
-run_goes_on mode m run (y ∷ ys) whole x f h t =
+pub run_goes_on : (mode : Mode) (m : ℕ) (run list whole pushed left : List Cell) (x : Cell) → Some x ≡ first list → false ≡ may_end mode m run x
+    → pushed ≡ run ++ x ∷ [] → left ≡ later list → taken_with mode m run list ≡ whole → taken_with mode m pushed left ≡ whole
+run_goes_on mode m run [] whole pushed left x f h p l t = absurd (cc)
+run_goes_on mode m run (y ∷ ys) whole pushed left x f h p l t =
     let same : x ≡ y = some_same x y f in
-    ap (λ z. taken_with mode m (run ++ z ∷ []) ys) same ∙ joins mode m run y ys (subst (λ z. may_end mode m run z ≡ false) same h) ∙ t
+    (λ i. taken_with mode m (p i) (l i))
+    ∙ ap (λ z. taken_with mode m (run ++ z ∷ []) ys) same
+    ∙ joins mode m run y ys (subst (λ z. may_end mode m run z ≡ false) same (sym h))
+    ∙ t
 
 -- and the rest is left behind it
-pub rest_goes_on : (run list whole : List Cell) (x : Cell) → Some x ≡ first list → whole ≡ run ++ list → whole ≡ (run ++ x ∷ []) ++ later list
-rest_goes_on run [] whole x f e = absurd (cc)
-rest_goes_on run (y ∷ ys) whole x f e = e ∙ sym (append_assoc run (y ∷ []) ys) ∙ ap (λ z. (run ++ z ∷ []) ++ ys) (sym (some_same x y f))
+pub rest_goes_on : (run list whole pushed left : List Cell) (x : Cell) → Some x ≡ first list → pushed ≡ run ++ x ∷ [] → left ≡ later list
+    → whole ≡ run ++ list → whole ≡ pushed ++ left
+rest_goes_on run [] whole pushed left x f p l e = absurd (cc)
+rest_goes_on run (y ∷ ys) whole pushed left x f p l e =
+    e ∙ sym (append_assoc run (y ∷ []) ys) ∙ ap (λ z. (run ++ z ∷ []) ++ ys) (sym (some_same x y f)) ∙ sym (λ i. p i ++ l i)
 
 -- nothing is left
 pub run_is_all : (mode : Mode) (m : ℕ) (run list whole : List Cell) → None ≡ first list → taken_with mode m run list ≡ whole → run ≡ whole

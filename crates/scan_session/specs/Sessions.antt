@@ -45,7 +45,7 @@ pub record IsSameScan (new old : SessionState) : Type 0 where
 
 -- what a fetch of m entries gives, where the session has come from a place to where it is: at the number of its view the next entries,
 -- and the end exactly where nothing is left
-pub record IsFetch (m : ℕ) (p : Place) (s : SessionState) (pieces : List Piece) (ended : Option ℕ) : Type 0 where
-  pub pieces : pieces ≡ fetched s.mode m (number_of s) (after p (answer_over s s.view.log))
+pub record IsFetch (m : ℕ) (p : Place) (s : SessionState) (given : List Piece) (end : Option ℕ) : Type 0 where
+  pub pieces : given ≡ fetched s.mode m (number_of s) (after p (answer_over s s.view.log))
   pub place : s.place ≡ moved s.mode p (taken s.mode m (after p (answer_over s s.view.log)))
-  pub ended : ended ≡ end_of (number_of s) (left_of s)
+  pub ended : end ≡ end_of (number_of s) (left_of s)

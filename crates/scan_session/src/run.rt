@@ -1,10 +1,10 @@
 // Runs of entries that are taken out of a source, and where a reader stands behind them.
-ghost use Rattle.std.specs.Prelude.{◌≡◌, ◌++◌, option_map, unwrap_or, IfOk};
+ghost use Rattle.std.specs.Prelude.{◌≡◌, ◌++◌, IfOk};
 ghost use Rattle.std.specs.Option.{ForSome};
 ghost use Rattle.tablet_model.specs.Places.{Place};
 ghost use Rattle.cell_key.specs.Ranges.{place_of, IsAtMostRow};
 ghost use Rattle.cell_key.specs.Views.{cell_of};
-ghost use Rattle.scan_session.specs.Runs.{may_end};
+ghost use Rattle.scan_session.specs.Runs.{may_end, place_behind};
 ghost use Rattle.scan_session.specs.Takes.{mode_of, behind, moved, taken, together};
 
 use cell_key::{ByteText, Entries, Entry, EntryRef, Key, NoMemory, Position, compare};
@@ -66,7 +66,7 @@ pub(crate) fn position_behind_run(
     isolated: bool,
 ) -> Result<Option<Position>, NoMemory>
     ensures place { IfOk result (λ position. (old : Place) →
-        unwrap_or (option_map place_of position) old ≡ moved (mode_of isolated) old run.now) }
+        place_behind position old ≡ moved (mode_of isolated) old run.now) }
     ensures row { IfOk result (λ position. ForSome position IsAtMostRow) }
 {
     match run.as_slice().last() {

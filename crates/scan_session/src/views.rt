@@ -4,6 +4,7 @@ ghost use Rattle.tablet_view.specs.Snapshot.{Snapshot};
 ghost use Rattle.scan_session.specs.Looks.{Found};
 
 use cell_key::NoMemory;
+use std::marker::Model;
 use std::sync::Arc;
 use tablet_view::View;
 
@@ -39,16 +40,24 @@ pub trait Views {
     ghost blind_has_none: { (s : Self) → looks s ≡ false → newest s ≡ None };
 }
 
-/// Looks at no view, and counts how often it was asked.
+/// Looks at no view. Contracts see it as how often it was asked.
 #[derive(Drop)]
 pub struct Still {
     questions: u64,
 }
 
+impl Model for Still {
+    ghost use Rattle.std.specs.Prelude.{ℕ};
+
+    ghost Value = { ℕ };
+
+    ghost view = { λ s. s.questions };
+}
+
 impl Still {
-    /// It takes no memory.
+    /// One that was not asked yet. It takes no memory.
     pub fn new() -> Still
-        ensures { result.questions ≡ 0 }
+        ensures { result ≡ 0 }
     {
         Still { questions: 0 }
     }
@@ -65,7 +74,7 @@ impl Views for Still {
 
     ghost newest = { λ _. None };
 
-    ghost questions = { λ s. s.questions };
+    ghost questions = { λ s. s };
 
     ghost blind_has_none = { λ s e. refl };
 

@@ -1,0 +1,155 @@
+ghost use Rattle.std.specs.Prelude.{◌≡◌, ◌+◌, ◌^◌, ◌<◌, ◌≤◌, true, Some, IfOk};
+ghost use Rattle.std.specs.Arc.{arc_value};
+ghost use Rattle.tablet_view.specs.Extending.{Extends};
+
+use super::*;
+use cell_key::{Bound, ByteText, Families, Mutation, NoMemory, Range, Update, Updates};
+use iter_config::read_config;
+use iter_contract::SortedSource;
+use std::alloc::Global;
+use std::str;
+use std::sync::Arc;
+use std::test::Fail;
+use tablet_view::View;
+
+/// Always shows one view.
+#[derive(Drop)]
+struct Shown {
+    view: Arc<View>,
+    questions: u64,
+}
+
+impl Views for Shown {
+    ghost use Rattle.tablet_view.proofs.Orders.{extends_refl};
+
+    ghost Home = { Unit {0} };
+
+    ghost home = { λ _. tt };
+
+    ghost looks = { λ _. true };
+
+    ghost newest = { λ s. Some (arc_value s.view) };
+
+    ghost questions = { λ s. s.questions };
+
+    ghost blind_has_none = { λ s e. absurd (cc) };
+
+    fn newer(&mut self, than: u64) -> Result<Option<Arc<View>>, NoMemory> {
+        let view = Arc::try_clone(&self.view)?;
+        self.questions = self.questions.saturating_add(1);
+        Ok((than < view.version()).then_some(view))
+    }
+}
+
+/// The view where a mutation of a row came in, whose values are put into the columns `a::`, `b::` and so on.
+fn grown(alloc: Global, view: &View, row: &[u8], values: &[&[u8]]) -> Result<Arc<View>, Fail>
+    requires { view.now.version < 2 ^ 63 }
+    ensures extends { IfOk result (λ next. Extends (arc_value next) view.now) }
+    ensures version { IfOk result (λ next. (arc_value next).version ≡ view.now.version + 1) }
+{
+    let mut updates = Updates::new(alloc);
+    for (family, value) in [b"a", b"b", b"c"].into_iter().zip(values) {
+        updates.push(Update {
+            family: ByteText::of(alloc, family)?,
+            qualifier: ByteText::new(alloc),
+            visibility: ByteText::new(alloc),
+            value: Some(ByteText::of(alloc, value)?),
+        })?;
+    }
+    let row = ByteText::of(alloc, row)?;
+    let next = view.apply(alloc, &Mutation { row, updates })?;
+    Ok(Arc::new(alloc, next)?)
+}
+
+/// The view of no mutations.
+fn empty(alloc: Global) -> Result<View, Fail>
+    ensures { IfOk result (λ view. view.version ≡ 0) }
+{
+    let config = Arc::new(alloc, read_config(alloc, b"")?)?;
+    Ok(View::open(alloc, config)?)
+}
+
+/// A session over all of a view.
+fn over_all(alloc: Global, view: &Arc<View>, isolated: bool) -> Result<Session, Fail>
+    ensures { IfOk result (λ session. session.view ≡ arc_value view.now) }
+{
+    let everything = Range {
+        start: Bound::Open,
+        end: Bound::Open,
+    };
+    let view = Arc::try_clone(view)?;
+    Ok(Session::open(alloc, &everything, &Families::all(), isolated, view)?)
+}
+
+/// Appends each piece as its number and its values, and a dot at the end.
+fn append(alloc: Global, text: &mut String, fetched: &Fetched) -> Result<(), Fail> {
+    for piece in fetched.pieces.as_slice() {
+        text.push_str(&piece.n.to_string(alloc)?)?;
+        text.push_str(":")?;
+        for entry in piece.entries.as_slice() {
+            text.push_str(str::from_utf8(entry.entry().value)?)?;
+        }
+        text.push_str(" ")?;
+    }
+    if fetched.ended.is_some() {
+        text.push_str(".")?;
+    }
+    Ok(())
+}
+
+/// What four fetches give.
+fn fetched(alloc: Global, session: &mut Session, count: u32) -> Result<String, Fail>
+    requires { 1 ≤ count }
+{
+    let mut views = Still::new();
+    let mut text = String::new(alloc);
+    for _ in 0..4 {
+        let fetched = session.fetch(alloc, &mut views, count)?;
+        append(alloc, &mut text, &fetched)?;
+    }
+    Ok(text)
+}
+
+#[test]
+fn fetches_give_the_answer_in_pieces(rt: HostRuntime) -> Result<(), Fail> {
+    let alloc = rt.alloc();
+    let one = grown(alloc, &empty(alloc)?, b"1", &[b"x", b"y"])?;
+    let two = grown(alloc, &one, b"2", &[b"z"])?;
+    let cases: [(bool, u32, &str); 5] = [
+        (false, 1, "2:x 2:y 2:z .."),
+        (false, 2, "2:xy 2:z ..."),
+        (false, 9, "2:xyz ...."),
+        (true, 1, "2:xy 2:z ..."),
+        (true, 3, "2:xyz ...."),
+    ];
+    for (isolated, count, pieces) in cases {
+        let mut session = over_all(alloc, &two, isolated)?;
+        assert_eq!(rt; fetched(alloc, &mut session, count)?.as_str(), pieces);
+    }
+    Ok(())
+}
+
+#[test]
+fn sessions_go_on_over_newer_views(rt: HostRuntime) -> Result<(), Fail> {
+    let alloc = rt.alloc();
+    let one = grown(alloc, &empty(alloc)?, b"1", &[b"x", b"y"])?;
+    let two = grown(alloc, &one, b"2", &[b"z"])?;
+    let mut session = over_all(alloc, &one, true)?;
+    assert_eq!(rt; fetched(alloc, &mut session, 2)?.as_str(), "1:xy ....");
+    session.renew(Arc::try_clone(&two)?);
+    session.drop_stack();
+    assert_eq!(rt; (session.n(), session.view().version()), (2, 2));
+    let left = session.remaining(alloc)?;
+    assert_eq!(rt; left.top().map(|entry| entry.value), Some(b"z".as_slice()));
+
+    let mut session = over_all(alloc, &one, false)?;
+    let mut shown = Shown {
+        view: two,
+        questions: 0,
+    };
+    let fetched = session.fetch(alloc, &mut shown, 3)?;
+    let mut text = String::new(alloc);
+    append(alloc, &mut text, &fetched)?;
+    assert_eq!(rt; (text.as_str(), shown.questions), ("2:xyz .", 1));
+    Ok(())
+}
