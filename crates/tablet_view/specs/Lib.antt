@@ -3,3 +3,5 @@ pub mod Refusals
 pub mod Extending
 pub mod Sources
 pub mod ViewParts
+pub mod FamilyParts
+pub mod FileParts

@@ -1,6 +1,9 @@
-ghost use Rattle.std.specs.Prelude.{◌≡◌, ◌<◌, [], Some, length, slice_get};
+ghost use Rattle.std.specs.Prelude.{◌≡◌, ◌<◌, [], ◌∷◌, ◌++◌, Some, length, map, slice_get, IfOk};
 ghost use Rattle.std.specs.Arc.{arc_value};
+ghost use Rattle.tablet_model.specs.Store.{unnamed};
+ghost use Rattle.tablet_view.specs.FileParts.{file_of};
 
+use cell_key::{FileIds, NoMemory};
 use sorted_file::SortedFile;
 use std::alloc::Global;
 use std::marker::Model;
@@ -21,12 +24,23 @@ pub(crate) struct Files {
 
 impl Model for Files {
     ghost use Rattle.std.specs.Prelude.{List, map};
-    ghost use Rattle.std.specs.Arc.{arc_value};
     ghost use Rattle.tablet_model.specs.Store.{File};
 
     ghost Value = { List File };
 
-    ghost view = { λ l. map (λ f. record { id = f.id; cells = arc_value f.file }) l.files.items };
+    ghost use Rattle.tablet_view.specs.FileParts.{file_of};
+
+    ghost view = { λ l. map file_of l.files.items };
+}
+
+impl StoredFile {
+    /// The same file, shared.
+    fn share(&self) -> Result<StoredFile, NoMemory>
+        ensures { IfOk result (λ stored. file_of stored ≡ file_of self.now) }
+    {
+        let file = Arc::try_clone(&self.file)?;
+        Ok(StoredFile { id: self.id, file })
+    }
 }
 
 impl Files {
@@ -39,6 +53,23 @@ impl Files {
         }
     }
 
+    /// These files without those of some numbers, and another one behind them.
+    pub(crate) fn with(
+        &self,
+        alloc: Global,
+        ids: &FileIds,
+        id: u64,
+        file: &Arc<SortedFile>,
+    ) -> Result<Files, NoMemory>
+        ensures { IfOk result (λ files. files
+            ≡ unnamed ids.now self.now ++ record { id = id; cells = arc_value file.now } ∷ []) }
+    {
+        let mut files = other_files(alloc, &self.files, ids)?;
+        let file = Arc::try_clone(file)?;
+        files.push(StoredFile { id, file })?;
+        Ok(Files { files })
+    }
+
     /// How many files there are.
     pub(crate) fn len(&self) -> usize
         ensures { result ≡ length self.now }
@@ -49,8 +80,26 @@ impl Files {
     /// The file at place `i`.
     pub(crate) fn get(&self, i: usize) -> &StoredFile
         requires { i < length self.now }
-        ensures { slice_get self.now i ≡ Some (record { id = result.now.id; cells = arc_value result.now.file }) }
+        ensures { slice_get self.now i ≡ Some (file_of result.now) }
     {
         &self.files[i]
     }
+}
+
+/// The files of other numbers.
+fn other_files(
+    alloc: Global,
+    files: &[StoredFile],
+    ids: &FileIds,
+) -> Result<Vec<StoredFile>, NoMemory>
+    ensures { IfOk result (λ others. map file_of others.items ≡ unnamed ids.now (map file_of files.now)) }
+{
+    let mut others = Vec::new(alloc);
+    for stored in files {
+        if ids.has(stored.id) {
+            continue;
+        }
+        others.push(stored.share()?)?;
+    }
+    Ok(others)
 }

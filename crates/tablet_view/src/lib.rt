@@ -2,6 +2,7 @@
 #![tactic(auto)]
 
 mod apply_error;
+mod family_iter;
 mod files;
 mod log;
 mod view;

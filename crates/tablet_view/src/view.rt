@@ -99,7 +99,9 @@ impl View {
         requires made { compacted done.now ≡ minor_compaction (rules_of self.now.config).minor (unwrap_or self.now.frozen []) }
         ensures { IfOk result (λ view. view ≡ flushed self.now id (compacted done.now)) }
     {
-        let _ = (&self.version, id, done);
+        let _ = &self.version;
+        let _ = id;
+        let _ = done.file();
         Err(NoMemory)
     }
 
@@ -117,7 +119,10 @@ impl View {
         requires made { IsMajorOf self.now ids.now (compacted done.now) }
         ensures { IfOk result (λ view. view ≡ replaced self.now ids.now id (compacted done.now)) }
     {
-        let _ = (&self.version, ids, id, done);
+        let _ = &self.version;
+        let _ = ids.len();
+        let _ = id;
+        let _ = done.file();
         Err(NoMemory)
     }
 
@@ -131,7 +136,8 @@ impl View {
             within range (usage_cells self.now.config Scan (in_families families.now (entries_in self.now)))
             ≡ answer (stages (stages_of self.now.config)) range families.now self.now.log }
     {
-        let _ = (&self.version, families);
+        let _ = &self.version;
+        let _ = families;
         Err(NoMemory)
     }
 
@@ -205,7 +211,8 @@ impl View {
         requires { i < length self.now.files }
         ensures { IfOk result (λ cursor. Some (part_cells cursor) ≡ option_map (λ file. file.cells) (slice_get self.now.files i)) }
     {
-        let _ = (&self.version, i);
+        let _ = &self.version;
+        let _ = i;
         Err(NoMemory)
     }
 }
