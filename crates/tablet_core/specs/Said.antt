@@ -1,5 +1,5 @@
 -- Events and answers of the code as those of the model.
-use Rattle.std.specs.Prelude.{Option, Some, None}
+use Rattle.std.specs.Prelude.{◌≡◌, Option, Some, None}
 use Rattle.tablet_model.specs.Steps as model
 use Rattle.cell_key.specs.Mutations.{row_change_of}
 use Rattle.ingest.specs.Refusals.{refusal_of}
@@ -35,3 +35,8 @@ said (answer.NoSuchFile file) = Some (model.no_such_file file)
 said (answer.InJob file job) = Some (model.in_job file job)
 said (answer.NoSuchJob job) = Some (model.no_such_job job)
 said answer.NoMemory = None
+
+-- an answer says why a step is refused; no answer, that no refusal stands
+abbrev pub IsRefusal : Option Answer → Option model.StepAnswer → Type 0
+IsRefusal None refusal = refusal ≡ None
+IsRefusal (Some a) refusal = said a ≡ refusal

@@ -2,7 +2,11 @@
 #![tactic(auto)]
 
 mod answer;
+mod core_state;
 mod event;
+mod flushing;
+mod freezing;
 
 pub use answer::Answer;
+pub use core_state::Core;
 pub use event::Event;

@@ -1,0 +1,4 @@
+pub mod Moves
+pub mod Freezes
+pub mod Flushes
+pub mod Applies
