@@ -1,5 +1,5 @@
 -- The memory is frozen.
-use Rattle.std.proofs.Common.{◌≡◌, ◌≢◌, ℕ, ◌+◌, ◌≤◌, Bool, true, false, cond, List, [], ◌∷◌, length, Option, Some, None, is_some, refl, ap, arith}
+use Rattle.std.proofs.Common.{◌≡◌, ◌≢◌, ℕ, ◌+◌, ◌≤◌, Bool, true, false, cond, List, [], ◌∷◌, length, Option, Some, None, is_some, option_map, refl, sym, ap, ◌∙◌, arith}
 use Rattle.tablet_model.specs.Cell.{Cell}
 use Rattle.tablet_model.specs.Steps.{froze, freeze, frozen_there, is_empty, logged, nothing_in_memory, refuse, step, step_answer}
 use Rattle.tablet_model.proofs.Ingests.{none_cond}
@@ -7,6 +7,14 @@ use Rattle.tablet_view.specs.Snapshot.{IsStanding, frozen, store_of}
 use Rattle.tablet_view.proofs.Orders.{extends_frozen}
 use Rattle.tablet_core.specs.State.{CoreState, IsStandingCore, state_of}
 use Rattle.tablet_core.proofs.Moves.{IsMade, core_stands, reason}
+
+-- whether there is a frozen part, by the number of its entries
+pub is_frozen : (o : Option (List Cell)) (n : Option ℕ) (b : Bool) → n ≡ option_map (λ z. length z) o → b ≡ is_some n → is_some o ≡ b
+is_frozen o n b e f = sym (f ∙ ap is_some e ∙ counted o)
+  where
+    counted : (o : Option (List Cell)) → is_some (option_map (λ z. length z) o) ≡ is_some o
+    counted None = refl
+    counted (Some z) = refl
 
 -- why it is not
 pub freeze_reason : (k : CoreState) (b d : Bool) → is_some k.view.frozen ≡ b → is_empty k.view.memory ≡ d → reason freeze k ≡ cond b (Some frozen_there) (cond d (Some nothing_in_memory) None)

@@ -2,3 +2,5 @@ pub mod Moves
 pub mod Freezes
 pub mod Flushes
 pub mod Applies
+pub mod FilesAt
+pub mod Starts

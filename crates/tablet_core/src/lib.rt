@@ -2,10 +2,12 @@
 #![tactic(auto)]
 
 mod answer;
+mod applying;
 mod core_state;
 mod event;
 mod flushing;
 mod freezing;
+mod starting;
 
 pub use answer::Answer;
 pub use core_state::Core;

@@ -1,0 +1,49 @@
+-- The file at a place, and what is behind and before it.
+use Rattle.std.proofs.Common.{◌≡◌, ◌||◌, ◌&&◌, ℕ, zero, suc, ◌+◌, ◌<◌, Bool, List, [], ◌∷◌, ◌++◌, length, take, drop, cond, eqb, slice_get, Option, Some, None, option_map, refl, sym, ap, ◌∙◌, subst, arith, add-one}
+use Rattle.std.specs.Option.{option_or}
+use Rattle.tablet_model.specs.Steps.{first_taken, holder, ids_of, in_job, takes_all}
+use Rattle.tablet_model.specs.Store.{File, RunningJob, has_id, named}
+
+-- the file of a number is at a place
+pub record FileAt (files : List File) (i id : ℕ) : Type 0 where
+  pub file : File
+  pub is_at : slice_get files i ≡ Some file
+  pub number : file.id ≡ id
+  pub front : drop i files ≡ file ∷ drop (i + 1) files
+  pub back : take (i + 1) files ≡ take i files ++ file ∷ []
+
+less_suc : (i n : ℕ) → suc i < suc n → i < n
+less_suc i n h = omega arith
+
+pub file_at : (files : List File) (i id : ℕ) → i < length files → option_map (λ f. f.id) (slice_get files i) ≡ Some id → FileAt files i id
+file_at [] i id h e = absurd (omega arith)
+file_at (f ∷ fs) zero id h e = record { file = f; is_at = refl; number = (let k : Some f.id ≡ Some id = e in cc); front = refl; back = refl }
+file_at (f ∷ fs) (suc i) id h e =
+    let a : FileAt fs i id = file_at fs i id (less_suc i (length fs) h) e in
+    record {
+      file = a.file;
+      is_at = a.is_at;
+      number = a.number;
+      front = a.front ∙ ap (λ n. a.file ∷ drop n fs) (add-one i) ∙ ap (λ n. a.file ∷ drop n (f ∷ fs)) (sym (add-one (suc i)));
+      back = ap (λ n. take n (f ∷ fs)) (add-one (suc i)) ∙ ap (λ l. f ∷ l) (ap (λ n. take n fs) (sym (add-one i)) ∙ a.back);
+    }
+
+pub has_id_at : (files : List File) (i id file : ℕ) → FileAt files i id → has_id (ids_of (drop i files)) file ≡ (eqb file id || has_id (ids_of (drop (i + 1) files)) file)
+unfolding has_id ids_of
+has_id_at files i id file a = ap (λ l. has_id (ids_of l) file) a.front ∙ ap (λ j. eqb file j || has_id (ids_of (drop (i + 1) files)) file) a.number
+
+pub takes_at : (files : List File) (i id : ℕ) (ids : List ℕ) → FileAt files i id → takes_all ids (drop i files) ≡ (has_id ids id && takes_all ids (drop (i + 1) files))
+unfolding takes_all
+takes_at files i id ids a = ap (takes_all ids) a.front ∙ ap (λ j. has_id ids j && takes_all ids (drop (i + 1) files)) a.number
+
+pub taken_at : (files : List File) (i id : ℕ) (jobs : List RunningJob) → FileAt files i id → first_taken jobs (ids_of (drop i files)) ≡ option_or (option_map (in_job id) (holder id jobs)) (first_taken jobs (ids_of (drop (i + 1) files)))
+unfolding first_taken ids_of
+taken_at files i id jobs a = ap (λ l. first_taken jobs (ids_of l)) a.front ∙ ap (λ j. option_or (option_map (in_job j) (holder j jobs)) (first_taken jobs (ids_of (drop (i + 1) files)))) a.number
+
+ids_more : (xs : List File) (f : File) → ids_of (xs ++ f ∷ []) ≡ ids_of xs ++ f.id ∷ []
+unfolding ids_of
+ids_more [] f = refl
+ids_more (x ∷ xs) f = ap (λ l. x.id ∷ l) (ids_more xs f)
+
+pub ids_at : (files : List File) (i id : ℕ) → FileAt files i id → ids_of (take (i + 1) files) ≡ ids_of (take i files) ++ id ∷ []
+ids_at files i id a = ap ids_of a.back ∙ ids_more (take i files) a.file ∙ ap (λ j. ids_of (take i files) ++ j ∷ []) a.number
