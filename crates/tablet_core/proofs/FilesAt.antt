@@ -1,6 +1,8 @@
 -- The file at a place, and what is behind and before it.
-use Rattle.std.proofs.Common.{◌≡◌, ◌||◌, ◌&&◌, ℕ, zero, suc, ◌+◌, ◌<◌, Bool, List, [], ◌∷◌, ◌++◌, length, take, drop, cond, eqb, slice_get, Option, Some, None, option_map, refl, sym, ap, ◌∙◌, subst, arith, add-one}
+use Rattle.std.proofs.Common.{◌≡◌, ◌||◌, ◌&&◌, ℕ, zero, suc, ◌+◌, ◌<◌, Bool, false, ◌≢◌, List, [], ◌∷◌, ◌++◌, length, take, drop, cond, eqb, slice_get, Option, Some, None, option_map, refl, sym, ap, ◌∙◌, subst, arith, add-one}
+use Rattle.std.specs.List.{AllByRecursion}
 use Rattle.std.specs.Option.{option_or}
+use Rattle.tablet_model.specs.Stands.{AreRising}
 use Rattle.tablet_model.specs.Steps.{first_taken, holder, ids_of, in_job, takes_all}
 use Rattle.tablet_model.specs.Store.{File, RunningJob, has_id, named}
 
@@ -47,3 +49,23 @@ ids_more (x ∷ xs) f = ap (λ l. x.id ∷ l) (ids_more xs f)
 
 pub ids_at : (files : List File) (i id : ℕ) → FileAt files i id → ids_of (take (i + 1) files) ≡ ids_of (take i files) ++ id ∷ []
 ids_at files i id a = ap ids_of a.back ∙ ids_more (take i files) a.file ∙ ap (λ j. ids_of (take i files) ++ j ∷ []) a.number
+
+-- what is of each file is of that one
+pub all_at : (P : File → Type 0) (files : List File) (i : ℕ) (f : File) → AllByRecursion P files → slice_get files i ≡ Some f → P f
+all_at P [] i f all h = absurd (let k : None ≡ Some f = h in cc)
+all_at P (x ∷ xs) zero f all h = subst P (let k : Some x ≡ Some f = h in cc) all.0
+all_at P (x ∷ xs) (suc i) f all h = all_at P xs i f all.1 h
+
+-- numbers rise up to it
+below_at : (files : List File) (i : ℕ) (f : File) → AreRising files → slice_get files i ≡ Some f → AllByRecursion (λ j. j < f.id) (ids_of (take i files))
+unfolding ids_of
+below_at [] zero f all h = tt
+below_at [] (suc i) f all h = tt
+below_at (x ∷ xs) zero f all h = tt
+below_at (x ∷ xs) (suc i) f all h = (all_at (λ g. x.id < g.id) xs i f all.0 h, below_at xs i f all.1 h)
+
+pub rising_at : (files : List File) (i id : ℕ) → AreRising files → FileAt files i id → AllByRecursion (λ j. j < id) (ids_of (take i files))
+rising_at files i id up a = subst (λ n. AllByRecursion (λ j. j < n) (ids_of (take i files))) a.number (below_at files i a.file up a.is_at)
+
+pub apart : (a b : ℕ) → a ≢ b → eqb a b ≡ false
+apart a b h = grind arith

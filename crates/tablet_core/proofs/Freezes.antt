@@ -21,16 +21,6 @@ pub freeze_reason : (k : CoreState) (b d : Bool) → is_some k.view.frozen ≡ b
 unfolding refuse state_of store_of
 freeze_reason k b d h e = λ i. cond (h i) (Some frozen_there) (cond (e i) (Some nothing_in_memory) None)
 
-pub no_length : (list : List Cell) → length list ≡ 0 → is_empty list ≡ true
-unfolding is_empty
-no_length [] h = refl
-no_length (x ∷ xs) h = absurd (grind arith)
-
-pub some_length : (list : List Cell) → length list ≢ 0 → is_empty list ≡ false
-unfolding is_empty
-some_length [] h = absurd (h refl)
-some_length (x ∷ xs) h = refl
-
 pub freeze_free : (k : CoreState) → reason freeze k ≡ None → k.view.frozen ≡ None
 unfolding refuse state_of store_of
 freeze_free k h = go k.view.frozen (none_cond (is_some k.view.frozen) frozen_there (cond (is_empty k.view.memory) (Some nothing_in_memory) None) h).0

@@ -4,3 +4,4 @@ pub mod Flushes
 pub mod Applies
 pub mod FilesAt
 pub mod Starts
+pub mod Finishes

@@ -5,6 +5,7 @@ mod answer;
 mod applying;
 mod core_state;
 mod event;
+mod finishing;
 mod flushing;
 mod freezing;
 mod starting;

@@ -77,3 +77,86 @@ fn file_ids(view: &View, alloc: Global) -> Result<FileIds, NoMemory>
     }
     Ok(ids)
 }
+
+impl Core {
+    /// Why no compaction of these files starts.
+    fn start_refusal(&self, job: u32, files: &FileIds) -> Option<Answer>
+        ensures { IsRefusal result (refuse (rules_of self.now.view.config) (state_of self.now) (model.compact job files.now)) }
+    {
+        if self.jobs.find(job).is_some() {
+            return Some(Answer::JobExists(job));
+        }
+        if files.len() == 0 {
+            return Some(Answer::NoFiles);
+        }
+        if let Some(file) = first_missing(&self.view, files) {
+            return Some(Answer::NoSuchFile(file));
+        }
+        match self.jobs.first_taken(files) {
+            Some((file, job)) => Some(Answer::InJob { file, job }),
+            None => None,
+        }
+    }
+
+    /// Why no compaction of all files starts.
+    fn start_all_refusal(&self, job: u32) -> Option<Answer>
+        ensures { IsRefusal result (refuse (rules_of self.now.view.config) (state_of self.now) (model.compact_all job)) }
+    {
+        if self.jobs.find(job).is_some() {
+            return Some(Answer::JobExists(job));
+        }
+        if self.view.file_count() == 0 {
+            return Some(Answer::NoFiles);
+        }
+        match first_held(&self.view, &self.jobs) {
+            Some((file, job)) => Some(Answer::InJob { file, job }),
+            None => None,
+        }
+    }
+
+    /// Puts a job that may start behind the others; without memory nothing is changed.
+    fn start(
+        &mut self,
+        alloc: Global,
+        job: u32,
+        full: bool,
+        files: &FileIds,
+    ) -> Result<(), NoMemory>
+        requires free { refuse (rules_of self.old.view.config) (state_of self.old) (model.compact job files.now) ≡ None }
+        requires full { full ≡ takes_all files.now self.old.view.files }
+        ensures { self.new ≡ (if is_ok result
+            then record self.old { jobs = self.old.jobs ++ record { job = job; full = full; ids = files.now } ∷ [] }
+            else self.old) }
+    {
+        let _ = self.view();
+        let files = files.copy(alloc)?;
+        self.jobs.start(JobState { job, full, files })
+    }
+
+    /// A compaction of these files starts. It is a full one exactly where these are all files.
+    pub(crate) fn compact(&mut self, alloc: Global, job: u32, files: &FileIds) -> Answer
+        ensures { Answers (model.compact job files.now) self.old self.new (said result) }
+    {
+        if let Some(refusal) = self.start_refusal(job, files) {
+            return refusal;
+        }
+        let full = takes_all(self.view(), files);
+        match self.start(alloc, job, full, files) {
+            Ok(()) => Answer::Started { job, full },
+            Err(_) => Answer::NoMemory,
+        }
+    }
+
+    /// A full compaction of all files starts.
+    pub(crate) fn compact_all(&mut self, alloc: Global, job: u32) -> Answer
+        ensures { Answers (model.compact_all job) self.old self.new (said result) }
+    {
+        if let Some(refusal) = self.start_all_refusal(job) {
+            return refusal;
+        }
+        match file_ids(self.view(), alloc) {
+            Ok(files) => self.compact(alloc, job, &files),
+            Err(_) => Answer::NoMemory,
+        }
+    }
+}

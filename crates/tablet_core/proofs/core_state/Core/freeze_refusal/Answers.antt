@@ -1,6 +1,7 @@
 use Rattle.std.proofs.Common.{◌≡◌, ◌≢◌, ap, false, is_some, length, refl, sym, true, ◌∙◌}
 use Rattle.tablet_model.specs.Steps.{is_empty}
-use Rattle.tablet_core.proofs.Freezes.{freeze_reason, is_frozen, no_length, some_length}
+use Rattle.tablet_core.proofs.Freezes.{freeze_reason, is_frozen}
+use Rattle.tablet_core.proofs.Starts.{no_length, some_length}
 use Rattle.tablet_core.proofs.core_state.Core.freeze_refusal.Goals as goal
 
 pub returns-then-is_some : goal.returns-then-is_some
