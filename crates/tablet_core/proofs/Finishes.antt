@@ -166,10 +166,6 @@ pub input_storable : (v : Snapshot) (ids : List ℕ) → IsStanding v → AreSto
 unfolding input_of store_of
 input_storable v ids h = all_sorted above above_exact (IsStorable (rules_of v.config)) (cells_of (named ids v.files)) (fewer (IsStorable (rules_of v.config)) ids v.files (parts (rules_of v.config) (store_of v 0 []) v.log h.parts).files)
 
-pub no_scan : (b : Bool) → cond b MajcFull MajcPart ≡ Scan → ⊥
-no_scan true h = (let k : MajcFull ≡ Scan = h in cc)
-no_scan false h = (let k : MajcPart ≡ Scan = h in cc)
-
 pub parts_at : (ids : List ℕ) (files : List File) (i id : ℕ) (a : FileAt files i id) (b : Bool) (lists : List (List Cell)) → has_id ids id ≡ b → lists ≡ map (λ f. f.cells) (named ids (take i files)) → lists ++ cond b (a.file.cells ∷ []) [] ≡ map (λ f. f.cells) (named ids (take (i + 1) files))
 parts_at ids files i id a b lists h l =
     (λ j. l j ++ cond b (a.file.cells ∷ []) [])

@@ -101,3 +101,7 @@ pub flush_is : (v : Snapshot) (config : List IterSpec) (z list : List Cell) (job
 unfolding flush_of
 flush_is v config z list job h e c l j =
     ap Some (j ∙ (λ i. record { config = c i; usage = Minc; input = (l ∙ one_sum z (frozen_up v z h e)) i })) ∙ ap (option_map (λ x. record { config = v.config; usage = Minc; input = x })) e
+
+pub job_flushes : (v : Snapshot) (done : Compaction) (o : Option (List Cell)) → Some done ≡ option_map (flush_of v) o → IfSome o (λ z. compacted done ≡ minor_compaction (rules_of v.config).minor z)
+job_flushes v done None h = tt
+job_flushes v done (Some z) h = (let e : Some done ≡ Some (flush_of v z) = h in let d : done ≡ flush_of v z = cc in ap compacted d ∙ flush_makes v z)

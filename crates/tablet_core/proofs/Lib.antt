@@ -5,3 +5,4 @@ pub mod Applies
 pub mod FilesAt
 pub mod Starts
 pub mod Finishes
+pub mod Staying

@@ -83,4 +83,29 @@ impl Core {
             Err(_) => Answer::NoMemory,
         }
     }
+
+    /// The minor compaction of the frozen part, made.
+    fn written(&self, alloc: Global) -> Result<Option<DoneJob>, NoMemory>
+        ensures { IfOk result (λ done. done ≡ option_map (flush_of self.now.view) self.now.view.frozen) }
+    {
+        match self.flush_job(alloc)? {
+            Some(job) => Ok(Some(job.run(alloc)?)),
+            None => Ok(None),
+        }
+    }
+
+    /// The frozen part becomes a file.
+    pub(crate) fn flush(&mut self, alloc: Global) -> Answer
+        requires { self.old.view.version < 2 ^ 63 }
+        ensures { Answers model.flush self.old self.new (said result) }
+    {
+        if let Some(refusal) = self.flush_refusal() {
+            return refusal;
+        }
+        match self.written(alloc) {
+            Ok(Some(done)) => self.install_flushed(alloc, &done),
+            Ok(None) => Answer::NothingFrozen,
+            Err(_) => Answer::NoMemory,
+        }
+    }
 }

@@ -3,13 +3,18 @@
 
 mod answer;
 mod applying;
+mod core_laws;
 mod core_state;
 mod event;
 mod finishing;
 mod flushing;
 mod freezing;
 mod starting;
+mod status;
+mod stepping;
 
 pub use answer::Answer;
+pub use core_laws::jobs_may_end_later;
 pub use core_state::Core;
 pub use event::Event;
+pub use status::{FileCount, FileCounts, StoreStatus};
