@@ -1,10 +1,12 @@
 -- The file at a place, and what is behind and before it.
-use Rattle.std.proofs.Common.{◌≡◌, ◌||◌, ◌&&◌, ℕ, zero, suc, ◌+◌, ◌<◌, Bool, false, ◌≢◌, List, [], ◌∷◌, ◌++◌, length, take, drop, cond, eqb, slice_get, Option, Some, None, option_map, refl, sym, ap, ◌∙◌, subst, arith, add-one}
+use Rattle.std.proofs.Common.{◌≡◌, ◌||◌, ◌&&◌, ℕ, zero, suc, ◌+◌, ◌<◌, Bool, false, ◌≢◌, List, [], ◌∷◌, ◌++◌, length, map, take, drop, cond, eqb, slice_get, Option, Some, None, option_map, refl, sym, ap, ◌∙◌, subst, arith, add-one}
 use Rattle.std.specs.List.{AllByRecursion}
 use Rattle.std.specs.Option.{option_or}
+use Rattle.std.proofs.lemmas.List.{map-append}
 use Rattle.tablet_model.specs.Stands.{AreRising}
 use Rattle.tablet_model.specs.Steps.{first_taken, holder, ids_of, in_job, takes_all}
-use Rattle.tablet_model.specs.Store.{File, RunningJob, has_id, named}
+use Rattle.tablet_model.specs.Store.{File, RunningJob, has_id}
+use Rattle.tablet_core.specs.Status.{count_of}
 
 -- the file of a number is at a place
 pub record FileAt (files : List File) (i id : ℕ) : Type 0 where
@@ -69,3 +71,10 @@ rising_at files i id up a = subst (λ n. AllByRecursion (λ j. j < n) (ids_of (t
 
 pub apart : (a b : ℕ) → a ≢ b → eqb a b ≡ false
 apart a b h = grind arith
+
+pub counts_at : (files : List File) (i id n : ℕ) (a : FileAt files i id) → option_map (λ f. length f.cells) (slice_get files i) ≡ Some n → map count_of (take i files) ++ record { id = id; count = n } ∷ [] ≡ map count_of (take (i + 1) files)
+counts_at files i id n a h =
+    let same : Some (length a.file.cells) ≡ Some n = ap (option_map (λ f. length f.cells)) (sym a.is_at) ∙ h in
+    let count : n ≡ length a.file.cells = cc in
+    (λ j. map count_of (take i files) ++ record { id = sym a.number j; count = count j } ∷ [])
+    ∙ sym (map-append count_of (take i files) (a.file ∷ [])) ∙ ap (map count_of) (sym a.back)
