@@ -1,4 +1,4 @@
-// Running jobs: which files each of them has.
+// Compactions: jobs, and which files each running one has.
 #![tactic(auto)]
 
 mod job_state;
@@ -6,5 +6,6 @@ mod running_jobs;
 #[cfg(test)]
 mod tests;
 
+pub use iter_stack::{DoneJob, Job};
 pub use job_state::{JobState, JobStates};
 pub use running_jobs::RunningJobs;

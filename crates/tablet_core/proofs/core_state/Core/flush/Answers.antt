@@ -1,0 +1,38 @@
+use Rattle.std.proofs.Common.{◌≡◌, ◌++◌, ◌∷◌, ◌+◌, ◌<◌, [], ℕ, List, Bool, true, false, not, eqb, length, cond, map, drop, take, is_some, Option, Some, None, IfOk, IfSome, option_map, refl, sym, ap, subst, ◌∙◌, arith}
+use Rattle.std.specs.Arc.{arc_value}
+use Rattle.std.specs.List.{filter}
+use Rattle.tablet_model.specs.Cell.{Cell}
+use Rattle.tablet_model.specs.Rules.{AreStorable}
+use Rattle.tablet_model.specs.Stands.{AreBelow}
+use Rattle.tablet_model.specs.Steps as model
+use Rattle.tablet_model.specs.Steps.{find_job}
+use Rattle.tablet_model.specs.Store.{RunningJob, has_id, input_of, named}
+use Rattle.iter_config.specs.RulesOf.{rules_of}
+use Rattle.iter_stack.specs.Jobs.{compacted}
+use Rattle.iter_stack.specs.PartCells.{part_cells, union_of}
+use Rattle.compactor.specs.Jobs.{job_of}
+use Rattle.tablet_view.specs.Snapshot.{IsMajorOf, IsStanding, Snapshot, replaced}
+use Rattle.tablet_core.specs.Jobs.{flush_of, major_of}
+use Rattle.tablet_core.specs.Said.{said}
+use Rattle.tablet_core.specs.State.{Answers, CoreState, IsStandingCore}
+use Rattle.tablet_core.proofs.FilesAt.{FileAt, file_at}
+use Rattle.tablet_core.proofs.Flushes.{files_below, flush_frozen, job_flushes}
+use Rattle.tablet_core.proofs.Finishes.{Found, finish_made, finish_nothing, finish_stands, finish_unmade, finished_core, input_storable, job_makes, made_in, major_is, none_found, parts_at, parts_sum, some_found}
+use Rattle.tablet_core.proofs.Moves.{made, unmade}
+use Rattle.tablet_core.proofs.core_state.Core.flush.Goals as goal
+
+pub returns-in-Some : goal.returns-in-Some
+returns-in-Some c = unmade model.flush c.args.self.now (said c.in-Some.refusal) c.in-Some.ensures
+
+pub install_flushed-requires-clause-made : goal.install_flushed-requires-clause-made
+install_flushed-requires-clause-made c = job_flushes c.args.self.now.view c.in-Ok-Some.done c.args.self.now.view.frozen (sym c.in-Ok-Some.field-0-is ∙ c.in-Ok-Some.ensures)
+
+pub returns-in-Ok-None : goal.returns-in-Ok-None
+returns-in-Ok-None c =
+    let none : c.args.self.now.view.frozen ≡ None = none_found (flush_of c.args.self.now.view) c.args.self.now.view.frozen (sym c.in-Ok-None.field-0-is ∙ c.in-Ok-None.ensures) in
+    let some : is_some c.args.self.now.view.frozen ≡ true = flush_frozen c.args.self.now c.in_default.ensures in
+    let wrong : false ≡ true = ap is_some (sym none) ∙ some in
+    absurd (cc)
+
+pub returns-in-Err : goal.returns-in-Err
+returns-in-Err c = unmade model.flush c.args.self.now None (sym c.in_default.ensures)

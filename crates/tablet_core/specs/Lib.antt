@@ -1,0 +1,5 @@
+pub mod State
+pub mod Said
+pub mod Jobs
+pub mod CoreLaws
+pub mod Status

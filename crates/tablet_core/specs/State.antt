@@ -1,0 +1,41 @@
+-- The state of a core, and its steps. All of this is this project's own.
+use Rattle.std.specs.Prelude.{◌≡◌, ℕ, ◌+◌, ◌≤◌, true, List, [], Option, Some, None, is_some}
+use Rattle.tablet_model.specs.Store.{Store, RunningJob}
+use Rattle.tablet_model.specs.Steps.{Event, StepAnswer, refuse, answered, stepped, logged}
+use Rattle.tablet_model.specs.Stands.{StandsInJobs}
+use Rattle.iter_config.specs.RulesOf.{rules_of}
+use Rattle.iter_config.specs.declared.iter_spec.IterSpec.{IterSpec}
+use Rattle.tablet_view.specs.Snapshot.{Snapshot, empty_snapshot, store_of}
+use Rattle.tablet_view.specs.Extending.{Extends}
+
+-- a snapshot of a tablet, the number of its next file, and its running jobs
+pub record CoreState : Type 0 where
+  pub view : Snapshot
+  pub next : ℕ
+  pub jobs : List RunningJob
+
+-- its store of lists
+unfoldable pub state_of : CoreState → Store
+state_of k = store_of k.view k.next k.jobs
+
+-- the core of no mutations
+abbrev pub empty_core : List IterSpec → CoreState
+empty_core config = record { view = empty_snapshot config; next = 1; jobs = [] }
+
+-- its jobs stand in its store, and the numbers of files stay below those of snapshots
+pub record IsStandingCore (k : CoreState) : Type 0 where
+  pub jobs : StandsInJobs (rules_of k.view.config) (state_of k)
+  pub next : k.next ≤ k.view.version + 1
+
+-- one step of the store of lists, with its log; a refused one changes nothing
+pub record IsStep (e : Event) (k l : CoreState) : Type 0 where
+  pub store : state_of l ≡ stepped (rules_of k.view.config) (state_of k) e
+  pub log : l.view.log ≡ logged (rules_of k.view.config) (state_of k) k.view.log e
+  pub config : l.view.config ≡ k.view.config
+  pub extends : Extends l.view k.view
+  pub unchanged : is_some (refuse (rules_of k.view.config) (state_of k) e) ≡ true → l ≡ k
+
+-- the answer is that of the step; without memory no refusal stands, and nothing is changed
+abbrev pub Answers : Event → CoreState → CoreState → Option StepAnswer → Type 0
+Answers e k l None = (refuse (rules_of k.view.config) (state_of k) e ≡ None) × (l ≡ k)
+Answers e k l (Some a) = (a ≡ answered (rules_of k.view.config) (state_of k) e) × IsStep e k l

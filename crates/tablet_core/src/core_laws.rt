@@ -1,0 +1,8 @@
+ghost use Rattle.tablet_core.specs.CoreLaws.{FrozenPartsStay, JobsStay};
+
+/// A law: what a job makes stays the same over any step that leaves the job running, and a frozen part stays until it is written.
+/// So a job may be made at once, or in another thread, and be put in place later.
+pub fn jobs_may_end_later()
+    ensures jobs { JobsStay }
+    ensures frozen { FrozenPartsStay }
+{}
