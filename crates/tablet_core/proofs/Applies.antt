@@ -7,7 +7,7 @@ use Rattle.tablet_model.specs.Sum.{sum_of}
 use Rattle.tablet_view.specs.Snapshot.{IsStanding, applied, refused_by, store_of}
 use Rattle.tablet_view.proofs.Orders.{extends_applied}
 use Rattle.tablet_core.specs.State.{CoreState, IsStandingCore, state_of}
-use Rattle.tablet_core.proofs.Moves.{IsMade, core_stands, reason}
+use Rattle.tablet_core.proofs.Moves.{IsMade, core_stands, next_version, reason}
 
 pub apply_reason : (k : CoreState) (m : RowChange) (o : Option Refusal) → refused_by k.view m ≡ o → reason (apply m) k ≡ option_map refused o
 unfolding refuse state_of store_of
@@ -21,6 +21,7 @@ apply_made k m h = record {
   store = λ i. record { count = length-append k.view.log (m ∷ []) i; files = k.view.files; next = k.next; frozen = k.view.frozen; memory = sum_of k.view.memory (entries_of (pos (length k.view.log + 1)) m); jobs = k.jobs };
   log = sym (ap (λ o. cond (is_some o) k.view.log (k.view.log ++ m ∷ [])) h);
   extends = extends_applied k.view m;
+  slow = next_version k.view.version;
 }
 
 pub apply_stands : (k : CoreState) (m : RowChange) → refused_by k.view m ≡ None → IsStanding k.view → IsStandingCore k → IsStandingCore (record k { view = applied k.view m })

@@ -28,7 +28,7 @@ use Rattle.tablet_view.proofs.Orders.{extends_replaced}
 use Rattle.tablet_core.specs.Jobs.{major_of}
 use Rattle.tablet_core.specs.State.{Answers, CoreState, IsStandingCore, state_of}
 use Rattle.tablet_core.proofs.FilesAt.{FileAt}
-use Rattle.tablet_core.proofs.Moves.{IsMade, core_stands, reason, unmade}
+use Rattle.tablet_core.proofs.Moves.{IsMade, core_stands, next_version, reason, unmade}
 
 -- why it does not
 pub finish_reason : (k : CoreState) (j : ℕ) (b : Bool) → is_some (find_job j k.jobs) ≡ b → reason (finish j) k ≡ cond b None (Some (no_such_job j))
@@ -88,6 +88,7 @@ finish_made k j t cells f m = record {
   store = finished_is k j t cells f m ∙ step_is k j t f;
   log = refl;
   extends = extends_replaced k.view t.ids k.next cells;
+  slow = next_version k.view.version;
 }
 
 pub finish_stands : (k : CoreState) (j : ℕ) (t : RunningJob) (cells : List Cell) → find_job j k.jobs ≡ Some t → cells ≡ made_in k t → IsStanding k.view → IsStandingCore k → IsStandingCore (finished_core k j t cells)

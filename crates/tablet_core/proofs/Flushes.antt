@@ -22,7 +22,7 @@ use Rattle.tablet_view.specs.Snapshot.{IsStanding, Snapshot, flushed, store_of}
 use Rattle.tablet_view.proofs.Orders.{extends_flushed}
 use Rattle.tablet_core.specs.Jobs.{flush_of}
 use Rattle.tablet_core.specs.State.{CoreState, IsStandingCore, state_of}
-use Rattle.tablet_core.proofs.Moves.{IsMade, core_stands, reason}
+use Rattle.tablet_core.proofs.Moves.{IsMade, core_stands, next_version, reason}
 
 -- why it does not
 pub flush_reason : (k : CoreState) (b d : Bool) → is_some k.view.frozen ≡ b → nat_lt (length k.view.files) 64 ≡ d → reason flush k ≡ cond (not b) (Some nothing_frozen) (cond d None (Some too_many_files))
@@ -54,6 +54,7 @@ flush_made k cells h m = record {
   store = ap (λ l. record { count = length k.view.log; files = k.view.files ++ record { id = k.next; cells = l } ∷ []; next = k.next + 1; frozen = None; memory = k.view.memory; jobs = k.jobs }) m;
   log = refl;
   extends = extends_flushed k.view k.next cells;
+  slow = next_version k.view.version;
 }
 
 pub flush_stands : (k : CoreState) (cells : List Cell) → reason flush k ≡ None → cells ≡ minor_compaction (rules_of k.view.config).minor (unwrap_or k.view.frozen []) → IsStanding k.view → IsStandingCore k → IsStandingCore (flushed_core k cells)

@@ -6,7 +6,7 @@ use Rattle.tablet_model.proofs.Ingests.{none_cond}
 use Rattle.tablet_view.specs.Snapshot.{IsStanding, frozen, store_of}
 use Rattle.tablet_view.proofs.Orders.{extends_frozen}
 use Rattle.tablet_core.specs.State.{CoreState, IsStandingCore, state_of}
-use Rattle.tablet_core.proofs.Moves.{IsMade, core_stands, reason}
+use Rattle.tablet_core.proofs.Moves.{IsMade, core_stands, next_version, reason}
 
 -- whether there is a frozen part, by the number of its entries
 pub is_frozen : (o : Option (List Cell)) (n : Option ℕ) (b : Bool) → n ≡ option_map (λ z. length z) o → b ≡ is_some n → is_some o ≡ b
@@ -31,7 +31,7 @@ freeze_free k h = go k.view.frozen (none_cond (is_some k.view.frozen) frozen_the
 
 pub freeze_made : (k : CoreState) → reason freeze k ≡ None → IsMade freeze k (record k { view = frozen k.view }) (froze (length k.view.memory))
 unfolding state_of store_of step step_answer logged
-freeze_made k h = record { free = h; answer = refl; store = refl; log = refl; extends = extends_frozen k.view }
+freeze_made k h = record { free = h; answer = refl; store = refl; log = refl; extends = extends_frozen k.view; slow = next_version k.view.version }
 
 pub freeze_stands : (k : CoreState) → reason freeze k ≡ None → IsStanding k.view → IsStandingCore k → IsStandingCore (record k { view = frozen k.view })
 freeze_stands k h v i = core_stands freeze k (record k { view = frozen k.view }) (froze (length k.view.memory)) v i (freeze_made k h) (more k.next (k.view.version + 1))

@@ -13,6 +13,13 @@ use Rattle.tablet_view.specs.Snapshot.{IsStanding, store_of}
 use Rattle.tablet_view.proofs.Orders.{extends_refl}
 use Rattle.tablet_core.specs.State.{Answers, CoreState, IsStandingCore, IsStep, empty_core, state_of}
 
+-- a number and the next one are not above the next one
+pub same_version : (n : ℕ) → n ≤ n + 1
+same_version n = omega arith
+
+pub next_version : (n : ℕ) → n + 1 ≤ n + 1
+next_version n = omega arith
+
 -- why a step is refused in a core
 abbrev pub reason : Event → CoreState → Option StepAnswer
 reason e k = refuse (rules_of k.view.config) (state_of k) e
@@ -26,6 +33,7 @@ refused e k a h = (
     log = sym (refused_log (rules_of k.view.config) (state_of k) k.view.log e a h);
     config = refl;
     extends = extends_refl k.view;
+    slow = same_version k.view.version;
     unchanged = λ _. refl;
   },
 )
@@ -42,6 +50,7 @@ pub record IsMade (e : Event) (k l : CoreState) (a : StepAnswer) : Type 0 where
   pub store : state_of l ≡ step (rules_of k.view.config) (state_of k) e
   pub log : l.view.log ≡ logged (rules_of k.view.config) (state_of k) k.view.log e
   pub extends : Extends l.view k.view
+  pub slow : l.view.version ≤ k.view.version + 1
 
 pub made : (e : Event) (k l : CoreState) (a : StepAnswer) → IsMade e k l a → Answers e k l (Some a)
 unfolding answered stepped
@@ -52,6 +61,7 @@ made e k l a m = (
     log = m.log;
     config = m.extends.config;
     extends = m.extends;
+    slow = m.slow;
     unchanged = λ t. absurd (absurd_bool t (ap is_some m.free));
   },
 )

@@ -10,7 +10,7 @@ use Rattle.stage_laws.proofs.FileLists.{takes_own}
 use Rattle.tablet_view.specs.Snapshot.{IsStanding, store_of}
 use Rattle.tablet_view.proofs.Orders.{extends_refl}
 use Rattle.tablet_core.specs.State.{Answers, CoreState, IsStandingCore, state_of}
-use Rattle.tablet_core.proofs.Moves.{IsMade, core_stands, reason}
+use Rattle.tablet_core.proofs.Moves.{IsMade, core_stands, reason, same_version}
 
 -- why it does not
 pub start_reason : (k : CoreState) (j : ℕ) (ids : List ℕ) (b d : Bool) (o p : Option StepAnswer) → is_some (find_job j k.jobs) ≡ b → is_empty ids ≡ d → first_missing (ids_of k.view.files) ids ≡ o → first_taken k.jobs ids ≡ p
@@ -34,6 +34,7 @@ start_made k t h e = record {
   store = λ i. record { count = length k.view.log; files = k.view.files; next = k.next; frozen = k.view.frozen; memory = k.view.memory; jobs = k.jobs ++ record { job = t.job; full = e i; ids = t.ids } ∷ [] };
   log = refl;
   extends = extends_refl k.view;
+  slow = same_version k.view.version;
 }
 
 pub start_stands : (k : CoreState) (t : RunningJob) → reason (compact t.job t.ids) k ≡ None → t.full ≡ takes_all t.ids k.view.files → IsStanding k.view → IsStandingCore k → IsStandingCore (started_core k t)
@@ -50,6 +51,7 @@ all_answers k l j (Some x) a = (
     log = a.1.log;
     config = a.1.config;
     extends = a.1.extends;
+    slow = a.1.slow;
     unchanged = a.1.unchanged;
   },
 )

@@ -27,12 +27,13 @@ pub record IsStandingCore (k : CoreState) : Type 0 where
   pub jobs : StandsInJobs (rules_of k.view.config) (state_of k)
   pub next : k.next ≤ k.view.version + 1
 
--- one step of the store of lists, with its log; a refused one changes nothing
+-- one step of the store of lists, with its log, by one snapshot at the most; a refused one changes nothing
 pub record IsStep (e : Event) (k l : CoreState) : Type 0 where
   pub store : state_of l ≡ stepped (rules_of k.view.config) (state_of k) e
   pub log : l.view.log ≡ logged (rules_of k.view.config) (state_of k) k.view.log e
   pub config : l.view.config ≡ k.view.config
   pub extends : Extends l.view k.view
+  pub slow : l.view.version ≤ k.view.version + 1
   pub unchanged : is_some (refuse (rules_of k.view.config) (state_of k) e) ≡ true → l ≡ k
 
 -- the answer is that of the step; without memory no refusal stands, and nothing is changed
