@@ -1,5 +1,5 @@
 mod Numbered
-mod Scans
+mod Histories
 mod Packs
 pub mod OpenSessions
 pub mod Replaying

@@ -18,7 +18,7 @@ use Rattle.script_text.specs.declared.line.Line.TheVariants as line
 use Rattle.script_text.specs.declared.refusal.Refusal.TheVariants.{NoSession, SessionOpen}
 use Rattle.script_text.specs.StoreAnswers.{file_line, frozen_line, job_line, log_line, memory_line}
 use Rattle.tablet_core.specs.State.{Answers, CoreState, state_of}
-use Rattle.tablet_core.specs.Statuses.{IsStatusOf, count_of}
+use Rattle.tablet_core.specs.Status.{IsStatusOf, count_of}
 use Rattle.tablet_core.specs.declared.status.StoreStatus.{StoreStatus}
 use Rattle.tablet_view.specs.Snapshot.{store_of}
 use Rattle.tablet_cli.specs.Replay.{Replayed, after_line, if_open, line_answer, opened_scan, where_open}

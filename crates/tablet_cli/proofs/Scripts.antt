@@ -1,5 +1,5 @@
 -- Scripts: how many lines they have, and where they begin.
-use Rattle.std.proofs.Common.{◌≡◌, ◌==◌, ℕ, ◌+◌, ◌≤◌, Bool, true, false, cond, List, [], ◌∷◌, length, map, refl, ◌∙◌, subst, sym, arith}
+use Rattle.std.proofs.Common.{◌≡◌, ◌==◌, ℕ, suc, ◌≤◌, Bool, true, false, cond, List, [], ◌∷◌, length, map, refl, ◌∙◌, subst, sym, arith}
 use Rattle.std.specs.List.{onto_first}
 use Rattle.std.proofs.lemmas.List.{length-map}
 use Rattle.script_text.specs.Code.{newline}
@@ -16,7 +16,7 @@ raw_few : (text : List ℕ) → length (raw_lines text) ≤ length text
 raw_few [] = omega arith
 raw_few (b ∷ bs) = go (b == newline) (raw_lines bs) (raw_few bs)
   where
-    go : (t : Bool) (lines : List (List ℕ)) → length lines ≤ length bs → length (cond t ((b ∷ []) ∷ lines) (onto_first b lines)) ≤ length bs + 1
+    go : (t : Bool) (lines : List (List ℕ)) → length lines ≤ length bs → length (cond t ((b ∷ []) ∷ lines) (onto_first b lines)) ≤ suc (length bs)
     go true lines h = omega (arith, h)
     go false [] h = omega arith
     go false (l ∷ ls) h = omega (arith, h)

@@ -1,4 +1,4 @@
-ghost use Rattle.std.specs.Prelude.{◌≡◌, ◌<◌, ◌≤◌, ◌==◌, [], ◌∷◌, ◌++◌, position, length, slice_get, slice_set, remove, Some, IfOk, IfSome, OnOk, OnErr};
+ghost use Rattle.std.specs.Prelude.{◌≡◌, ◌<◌, ◌≤◌, ◌==◌, [], ◌∷◌, ◌++◌, position, length, is_ok, if◌then◌else◌, slice_get, slice_set, remove, Some, IfOk, IfSome, OnErr};
 ghost use Rattle.std.specs.Arc.{arc_value};
 ghost use Rattle.cell_key.specs.Ranges.{span_of};
 ghost use Rattle.scan_session.specs.Sessions.{IsFetch, IsSameScan};
@@ -56,7 +56,7 @@ impl Sessions {
 
     /// Puts a session at the end.
     pub fn push(&mut self, session: OpenSession) -> Result<(), NoMemory>
-        ensures { OnOk result (self.new ≡ self.old ++ session ∷ []) }
+        ensures { self.new ≡ (if is_ok result then self.old ++ session ∷ [] else self.old) }
     {
         self.open.push(session)?;
         Ok(())

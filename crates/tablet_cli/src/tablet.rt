@@ -1,4 +1,7 @@
 ghost use Rattle.std.specs.Prelude.{◌≡◌, ◌+◌, ◌<◌, ◌≤◌, ◌^◌, ◌++◌, [], IfOk, OnOk};
+ghost use Rattle.std.specs.Arc.{arc_value};
+ghost use Rattle.tablet_model.specs.Places.{Start};
+ghost use Rattle.scan_session.specs.Takes.{mode_of};
 ghost use Rattle.tablet_core.specs.Said.{event_of};
 ghost use Rattle.tablet_core.specs.State.{empty_core};
 ghost use Rattle.tablet_cli.specs.Replay.{after_step, step_answer_text};
@@ -17,6 +20,7 @@ use std::alloc::Global;
 use std::marker::Model;
 use std::sync::Arc;
 use tablet_core::{Core, Event};
+use tablet_view::View;
 
 /// What a script has made: the store, and the sessions that are open on its views.
 #[derive(Drop)]
@@ -33,6 +37,33 @@ impl Model for Tablet {
     ghost view = { λ t. record { core = t.core; sessions = t.sessions } };
 
     ghost invariant = { λ t. ArePinned t.core.view t.sessions };
+}
+
+/// The present view, shared.
+fn present_view(core: &Core) -> Result<Arc<View>, NoMemory>
+    ensures { IfOk result (λ view. arc_value view ≡ core.now.view) }
+{
+    Ok(Arc::try_clone(core.view())?)
+}
+
+/// A session at its start, on the present view.
+fn session_on(
+    core: &Core,
+    alloc: Global,
+    range: &RangeBuf,
+    families: &Families,
+    isolated: bool,
+) -> Result<Session, NoMemory>
+    ensures { IfOk result (λ session. session ≡ record {
+        view = core.now.view;
+        range = range.now;
+        families = families.now;
+        mode = mode_of isolated;
+        place = Start;
+    }) }
+{
+    let view = present_view(core)?;
+    Session::open(alloc, &range.range(), families, isolated, view)
 }
 
 impl Tablet {
@@ -90,8 +121,7 @@ impl Tablet {
         ensures { OnOk result (text.new ≡ text.old ++ scan_text (length (replayed_by self.now).log)
             (scanned (replayed_by self.now).config range.now families.now (replayed_by self.now).log)) }
     {
-        let view = Arc::try_clone(self.core.view())?;
-        let session = Session::open(alloc, &range.range(), families, false, view)?;
+        let session = session_on(&self.core, alloc, range, families, false)?;
         let mut rest = session.remaining(alloc)?;
         append_found(alloc, session.n(), &mut rest, text)
     }
@@ -110,14 +140,15 @@ impl Tablet {
         ensures state { OnOk result (replayed_by self.new ≡ after_line (replayed_by self.old) (Some (line.Open number range.now families.now isolated))) }
         ensures version { OnOk result (self.new.core.view.version ≡ self.old.core.view.version) }
     {
-        if self.sessions.place_of(number).is_some() {
-            return append_refusal(alloc, text, &Refusal::SessionOpen(number));
+        match self.sessions.place_of(number) {
+            Some(_) => append_refusal(alloc, text, &Refusal::SessionOpen(number)),
+            None => {
+                let session = session_on(&self.core, alloc, range, families, isolated)?;
+                let n = session.n();
+                self.sessions.push(OpenSession { number, session })?;
+                append_opened(alloc, text, number, n)
+            }
         }
-        let view = Arc::try_clone(self.core.view())?;
-        let session = Session::open(alloc, &range.range(), families, isolated, view)?;
-        let n = session.n();
-        self.sessions.push(OpenSession { number, session })?;
-        append_opened(alloc, text, number, n)
     }
 
     /// Appends the next entries of a session, `count` of them.
@@ -155,7 +186,7 @@ impl Tablet {
     {
         match self.sessions.place_of(number) {
             Some(i) => {
-                let view = Arc::try_clone(self.core.view())?;
+                let view = present_view(&self.core)?;
                 let n = view.mutations();
                 self.sessions.renew_at(i, view);
                 append_renewed(alloc, text, number, n)

@@ -12,7 +12,7 @@ use Rattle.iter_stack.specs.Usages.{usage_cells}
 use Rattle.iter_stack.specs.declared.usage.Usage.TheVariants.{Minc, MajcFull}
 use Rattle.iter_stack.proofs.Stored.{storable_read}
 use Rattle.tablet_cli.proofs.Packs.{live_unmarked_read, major_packed, minor_packed, packed_short}
-use Rattle.tablet_cli.proofs.Scans.{storable_history}
+use Rattle.tablet_cli.proofs.Histories.{storable_history}
 use Rattle.tablet_cli.proofs.packing.packed.Goals as goal
 
 pub compact-requires-clause-read : goal.compact-requires-clause-read

@@ -3,7 +3,7 @@ use Rattle.tablet_model.specs.Ingest.{IsHistory, ingest}
 use Rattle.cell_key.specs.Mutations.{row_change_of}
 use Rattle.ingest.specs.Refusals.{refusal_of}
 use Rattle.iter_config.specs.RulesOf.{rules_of}
-use Rattle.tablet_cli.proofs.Scans.{let_in_bounds, let_in_more}
+use Rattle.tablet_cli.proofs.Histories.{let_in_bounds, let_in_more}
 use Rattle.tablet_cli.proofs.history.History.apply.Goals as goal
 
 pub push-requires : goal.push-requires

@@ -17,7 +17,7 @@ change : ℕ → OpenScan → OpenScan
 change n s = record s { n = n }
 
 same_view : (c : goal.After-append_renewed) → arc_value c.in_ok-view-in-Some.view ≡ c.self.inside.core.view
-same_view c = cc
+same_view c = c.in_ok-view-in-Some.ensures
 
 pub returns-in_ok-view-in-Some-clause-text : goal.returns-in_ok-view-in-Some-clause-text
 unfolding line_answer text
