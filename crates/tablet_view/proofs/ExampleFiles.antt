@@ -1,5 +1,5 @@
 -- The files of the views of the tests.
-use Rattle.std.proofs.Common.{◌≡◌, ℕ, ◌<◌, ◌||◌, true, cond, eqb, false, List, [], ◌∷◌, length, map, Option, Some, option_map, slice_get, refl, sym, ap, ◌∙◌, subst, arith}
+use Rattle.std.proofs.Common.{◌≡◌, ℕ, ◌<◌, ◌||◌, true, cond, eqb, false, List, [], ◌∷◌, length, map, Some, option_map, slice_get, sym, ap, ◌∙◌, subst, arith}
 use Rattle.tablet_model.specs.Cell.{Cell}
 use Rattle.tablet_model.specs.Stands.{AreBelow}
 use Rattle.tablet_model.specs.Store.{File, has_id, named}

@@ -1,4 +1,4 @@
-ghost use Rattle.std.specs.Prelude.{◌≡◌, ◌<◌, ◌^◌, length, IsSome};
+ghost use Rattle.std.specs.Prelude.{◌≡◌, ◌<◌, ◌^◌, length, IsSome, IfOk};
 ghost use Rattle.tablet_model.specs.Stands.{AreBelow};
 
 use super::*;
@@ -100,7 +100,9 @@ fn stepped(alloc: Global, view: &View, step: Step) -> Result<View, Fail> {
         Step::Flush if view.frozen_count().is_some() && view.file_count() == 0 => {
             flushed(alloc, view, 1)
         }
-        Step::Compact if view.file_count() == 1 && view.file_at(0).0 < 2 => compacted(alloc, view, 2),
+        Step::Compact if view.file_count() == 1 && view.file_at(0).0 < 2 => compacted(
+            alloc, view, 2,
+        ),
         _ => Err("the step does not fit the view".into()),
     }
 }
@@ -139,13 +141,25 @@ fn scanned(alloc: Global, view: &View, families: &Families) -> Result<String, Fa
 
 /// How many mutations, files, and entries in the first file, the frozen part and the memory a view has.
 fn counts(view: &View) -> (u64, usize, u64, u64, u64) {
-    let written = if view.file_count() == 0 { 0 } else { view.file_at(0).1 };
+    let written = if view.file_count() == 0 {
+        0
+    } else {
+        view.file_at(0).1
+    };
     let frozen = view.frozen_count().unwrap_or(0);
-    (view.mutations(), view.file_count(), written, frozen, view.memory_count())
+    (
+        view.mutations(),
+        view.file_count(),
+        written,
+        frozen,
+        view.memory_count(),
+    )
 }
 
 /// The view of no mutations.
-fn opened(alloc: Global) -> Result<View, Fail> {
+fn opened(alloc: Global) -> Result<View, Fail>
+    ensures { IfOk result (λ view. view.version ≡ 0) }
+{
     let config = Arc::new(alloc, read_config(alloc, DOCUMENT)?)?;
     Ok(View::open(alloc, config)?)
 }
@@ -156,11 +170,31 @@ fn each_step_keeps_what_came_in(rt: HostRuntime) -> Result<(), Fail> {
     let mut view = opened(alloc)?;
     let steps = [
         (Step::Put(b'1'), (1, 0, 0, 0, 2), "s1=1 t1=1 / s1=1 t1=1 "),
-        (Step::Delete(b'2'), (2, 0, 0, 0, 4), "s2=2 s1=1 t1=1 v2! / s2=3 t1=1 "),
-        (Step::Freeze, (2, 0, 0, 4, 0), "s2=2 s1=1 t1=1 v2! / s2=3 t1=1 "),
-        (Step::Put(b'5'), (3, 0, 0, 4, 2), "s3=5 s2=2 s1=1 t3=5 t1=1 v2! / s3=8 t3=5 t1=1 "),
-        (Step::Flush, (3, 1, 3, 0, 2), "s3=5 s2=3 t3=5 t1=1 v2! / s3=8 t3=5 t1=1 "),
-        (Step::Compact, (3, 1, 3, 0, 2), "s3=5 s2=3 t3=5 t1=1 v2! / s3=8 t3=5 t1=1 "),
+        (
+            Step::Delete(b'2'),
+            (2, 0, 0, 0, 4),
+            "s2=2 s1=1 t1=1 v2! / s2=3 t1=1 ",
+        ),
+        (
+            Step::Freeze,
+            (2, 0, 0, 4, 0),
+            "s2=2 s1=1 t1=1 v2! / s2=3 t1=1 ",
+        ),
+        (
+            Step::Put(b'5'),
+            (3, 0, 0, 4, 2),
+            "s3=5 s2=2 s1=1 t3=5 t1=1 v2! / s3=8 t3=5 t1=1 ",
+        ),
+        (
+            Step::Flush,
+            (3, 1, 3, 0, 2),
+            "s3=5 s2=3 t3=5 t1=1 v2! / s3=8 t3=5 t1=1 ",
+        ),
+        (
+            Step::Compact,
+            (3, 1, 3, 0, 2),
+            "s3=5 s2=3 t3=5 t1=1 v2! / s3=8 t3=5 t1=1 ",
+        ),
     ];
     let all = Families::all();
     for (step, want, answers) in steps {
@@ -168,7 +202,10 @@ fn each_step_keeps_what_came_in(rt: HostRuntime) -> Result<(), Fail> {
         assert_eq!(rt; counts(&next), want);
         assert_eq!(rt; scanned(alloc, &next, &all)?.as_str(), answers);
         assert!(rt; next.begins_with(&view));
-        assert_eq!(rt; view.begins_with(&next), view.mutations() == next.mutations());
+        assert_eq!(rt;
+            view.begins_with(&next),
+            view.mutations() == next.mutations()
+        );
         view = next;
     }
     Ok(())
@@ -179,7 +216,10 @@ fn sources_have_the_chosen_families(rt: HostRuntime) -> Result<(), Fail> {
     let alloc = rt.alloc();
     let view = stepped(alloc, &opened(alloc)?, Step::Put(b'1'))?;
     let view = stepped(alloc, &view, Step::Delete(b'2'))?;
-    let families = Families::of(alloc, &[ByteText::of(alloc, b"x")?, ByteText::of(alloc, b"t")?])?;
+    let families = Families::of(
+        alloc,
+        &[ByteText::of(alloc, b"x")?, ByteText::of(alloc, b"t")?],
+    )?;
     assert_eq!(rt; scanned(alloc, &view, &families)?.as_str(), "t1=1 / t1=1 ");
     Ok(())
 }
@@ -189,6 +229,9 @@ fn refused_mutations_are_told(rt: HostRuntime) -> Result<(), Fail> {
     let alloc = rt.alloc();
     let mutation = mutation(alloc, b'1', b's', Some(b'2'))?;
     let refused = opened(alloc)?.apply(alloc, &mutation).err();
-    assert_eq!(rt; refused, Some(ApplyError::Refused(Refused::Duplicate { at: 2 })));
+    assert_eq!(rt;
+        refused,
+        Some(ApplyError::Refused(Refused::Duplicate { at: 2 }))
+    );
     Ok(())
 }
