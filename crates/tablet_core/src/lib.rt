@@ -12,6 +12,8 @@ mod freezing;
 mod starting;
 mod status;
 mod stepping;
+#[cfg(test)]
+mod tests;
 
 pub use answer::Answer;
 pub use core_laws::jobs_may_end_later;
