@@ -12,8 +12,6 @@ mod freezing;
 mod starting;
 mod status;
 mod stepping;
-#[cfg(test)]
-mod tests;
 
 pub use answer::Answer;
 pub use core_laws::jobs_may_end_later;
