@@ -129,6 +129,15 @@ fn fetches_give_the_answer_in_pieces(rt: HostRuntime) -> Result<(), Fail> {
     Ok(())
 }
 
+/// The first value that is left of a session.
+fn first_left(alloc: Global, session: &Session) -> Result<Option<ByteText>, Fail> {
+    let left = session.remaining(alloc)?;
+    match left.top() {
+        Some(entry) => Ok(Some(ByteText::of(alloc, entry.value)?)),
+        None => Ok(None),
+    }
+}
+
 #[test]
 fn sessions_go_on_over_newer_views(rt: HostRuntime) -> Result<(), Fail> {
     let alloc = rt.alloc();
@@ -136,20 +145,35 @@ fn sessions_go_on_over_newer_views(rt: HostRuntime) -> Result<(), Fail> {
     let two = grown(alloc, &one, b"2", &[b"z"])?;
     let mut session = over_all(alloc, &one, true)?;
     assert_eq!(rt; fetched(alloc, &mut session, 2)?.as_str(), "1:xy ....");
-    session.renew(Arc::try_clone(&two)?);
+    session.renew(two);
     session.drop_stack();
     assert_eq!(rt; (session.n(), session.view().version()), (2, 2));
-    let left = session.remaining(alloc)?;
-    assert_eq!(rt; left.top().map(|entry| entry.value), Some(b"z".as_slice()));
+    let left = first_left(alloc, &session)?;
+    assert_eq!(rt; left.as_ref().map(|value| value.bytes()), Some(b"z".as_slice()));
+    Ok(())
+}
 
+/// What a fetch gives where newer views are shown.
+fn fetched_once(alloc: Global, session: &mut Session, shown: &mut Shown) -> Result<String, Fail>
+    requires { Extends (arc_value shown.old.view) session.old.view }
+{
+    let fetched = session.fetch(alloc, shown, 3)?;
+    let mut text = String::new(alloc);
+    append(alloc, &mut text, &fetched)?;
+    Ok(text)
+}
+
+#[test]
+fn a_fetch_looks_once_for_a_newer_view(rt: HostRuntime) -> Result<(), Fail> {
+    let alloc = rt.alloc();
+    let one = grown(alloc, &empty(alloc)?, b"1", &[b"x", b"y"])?;
+    let two = grown(alloc, &one, b"2", &[b"z"])?;
     let mut session = over_all(alloc, &one, false)?;
     let mut shown = Shown {
         view: two,
         questions: 0,
     };
-    let fetched = session.fetch(alloc, &mut shown, 3)?;
-    let mut text = String::new(alloc);
-    append(alloc, &mut text, &fetched)?;
-    assert_eq!(rt; (text.as_str(), shown.questions), ("2:xyz .", 1));
+    assert_eq!(rt; fetched_once(alloc, &mut session, &mut shown)?.as_str(), "2:xyz .");
+    assert_eq!(rt; shown.questions, 1);
     Ok(())
 }
