@@ -127,8 +127,16 @@ fn fetches_give_the_answer_in_pieces(rt: HostRuntime) -> Result<(), Fail> {
     Ok(())
 }
 
-/// The first value that is left of a session.
-fn first_left(alloc: Global, session: &Session) -> Result<Option<ByteText>, Fail> {
+/// The first value that is left of a session over a view that follows its own.
+fn first_left(
+    alloc: Global,
+    session: &mut Session,
+    view: Arc<View>,
+) -> Result<Option<ByteText>, Fail>
+    requires { Extends (arc_value view) session.old.view }
+{
+    session.renew(view);
+    session.drop_stack();
     let left = session.remaining(alloc)?;
     match left.top() {
         Some(entry) => Ok(Some(ByteText::of(alloc, entry.value)?)),
@@ -142,15 +150,13 @@ fn sessions_go_on_over_newer_views(rt: HostRuntime) -> Result<(), Fail> {
     let one = grown(alloc, &empty(alloc)?, b"1", &[b"x", b"y"])?;
     let two = grown(alloc, &one, b"2", &[b"z"])?;
     let mut session = over_all(alloc, &one, true)?;
-    assert_eq!(rt; fetched(alloc, &mut session, 2)?.as_str(), "1:xy ....");
-    session.renew(two);
-    session.drop_stack();
-    assert_eq!(rt; (session.n(), session.view().version()), (2, 2));
-    let left = first_left(alloc, &session)?;
+    assert_eq!(rt; (session.n(), session.view().version()), (1, 1));
+    let left = first_left(alloc, &mut session, two)?;
     assert_eq!(rt;
         left.as_ref().map(|value| value.bytes()),
-        Some(b"z".as_slice())
+        Some(b"x".as_slice())
     );
+    assert_eq!(rt; fetched(alloc, &mut session, 2)?.as_str(), "2:xy 2:z ...");
     Ok(())
 }
 
