@@ -99,7 +99,7 @@ left_behind mode e [] [] up ends = dropped mode e e [] (own e)
 left_behind mode e [] (x ∷ xs) up ends =
     let up_from : is_after (behind mode e) x.key ≡ true = is_behind_entry mode e x ∙ parted_beyond mode e x (not_beyond mode e x up.0.0) ends in
     let later : AllByRecursion (λ y. is_after (behind mode e) y.key ≡ true) xs =
-        all_weaker (λ y. above x y ≡ false) (λ y. is_after (behind mode e) y.key ≡ true) (λ y g. after-GoesUp (behind mode e) x y g up_from) xs up.1.0 in
+    all_weaker (λ y. above x y ≡ false) (λ y. is_after (behind mode e) y.key ≡ true) (λ y g. after-GoesUp (behind mode e) x y g up_from) xs up.1.0 in
     dropped mode e e (x ∷ xs) (own e) ∙ filter_all (λ y. is_after (behind mode e) y.key) (x ∷ xs) (up_from, later)
 left_behind mode e (x ∷ xs) rest up ends =
     dropped mode (last_of x xs) e (x ∷ xs ++ rest) (all_last (λ y. above e y ≡ false) x xs rest up.0) ∙ left_behind mode x xs rest up.1 ends
@@ -115,7 +115,7 @@ behind_piece mode p list (e ∷ es) rest up h ends =
     let there : Cell → Bool = λ x. is_after (behind mode last) x.key in
     let last_there : here last ≡ true = all_last (λ y. here y ≡ true) e es rest (subst (AllByRecursion (λ y. here y ≡ true)) h (all_pass here list)) in
     let within : (x : Cell) → there x ≡ true → here x ≡ true =
-        λ x k. after-GoesUp p last x (above_of_beyond mode last x (sym (is_behind_entry mode last x) ∙ k)) last_there in
+    λ x k. after-GoesUp p last x (above_of_beyond mode last x (sym (is_behind_entry mode last x) ∙ k)) last_there in
     sym (filter_in there here within list)
     ∙ ap (filter there) h
     ∙ left_behind mode e es rest (subst (Ascends above) h (Ascends-filter above above_exact here list up)) ends

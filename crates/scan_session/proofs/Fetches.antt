@@ -21,7 +21,7 @@ fetch_is m p s rest n given end up rest_is n_is given_is place_is end_is =
     let whole : List Cell = answer_over s s.view.log in
     let place : s.place ≡ moved s.mode p (taken s.mode m (after p whole)) = place_is ∙ ap (λ l. moved s.mode p (taken s.mode m l)) rest_is in
     let left : rest ≡ taken s.mode m rest ++ left_of s =
-        rest_is ∙ rest_left s.mode m p whole up ∙ sym (λ i. taken s.mode m (rest_is i) ++ after (place i) whole) in
+    rest_is ∙ rest_left s.mode m p whole up ∙ sym (λ i. taken s.mode m (rest_is i) ++ after (place i) whole) in
     record {
       pieces = given_is ∙ (λ i. fetched s.mode m (n_is i) (rest_is i));
       place = place;
@@ -38,13 +38,13 @@ fetch_over m old new view found mode place rest n given end new_is mode_is found
     let s : SessionState = record old { view = view; place = place } in
     let P : Snapshot → Type 0 = λ v. Ascends above (answer_over (record old { view = v }) v.log) in
     subst (λ t. IsFetch m old.place t given end) (sym new_is)
-      (fetch_is m old.place s rest n given end
-        (subst P found_is up)
-        (rest_is ∙ ap (λ v. left_of (record old { view = v })) found_is)
-        n_is
-        (given_is ∙ ap (λ k. fetched k m n rest) mode_is)
-        (place_is ∙ ap (λ k. moved k old.place (taken k m rest)) mode_is)
-        (λ left e. end_is left (subst (λ k. rest ≡ taken k m rest ++ left) (sym mode_is) e)))
+    (fetch_is m old.place s rest n given end
+    (subst P found_is up)
+    (rest_is ∙ ap (λ v. left_of (record old { view = v })) found_is)
+    n_is
+    (given_is ∙ ap (λ k. fetched k m n rest) mode_is)
+    (place_is ∙ ap (λ k. moved k old.place (taken k m rest)) mode_is)
+    (λ left e. end_is left (subst (λ k. rest ≡ taken k m rest ++ left) (sym mode_is) e)))
 
 -- a fetch goes on with a walk over the log of the view
 pub fetch_walks : (m : ℕ) (p : Place) (s : SessionState) (pieces : List Piece) (ended : Option ℕ) (n : ℕ) → IsFetch m p s pieces ended → n ≤ number_of s
@@ -53,8 +53,10 @@ fetch_walks m p s pieces ended n fetch h =
     let answer_is : answers_of s (number_of s) ≡ answer_over s s.view.log = ap (answer_over s) (take-length s.view.log) in
     let walk = fetches_are_walks (answers_of s) (number_of s) s.mode p n (number_of s) m h (le_refl (number_of s)) in
     let pieces_are : fetched s.mode m (number_of s) (after p (answers_of s (number_of s))) ≡ pieces =
-        ap (λ list. fetched s.mode m (number_of s) (after p list)) answer_is ∙ sym fetch.pieces in
+    ap (λ list. fetched s.mode m (number_of s) (after p list)) answer_is ∙ sym fetch.pieces in
     let place_is : moved s.mode p (taken s.mode m (after p (answers_of s (number_of s)))) ≡ s.place =
-        ap (λ list. moved s.mode p (taken s.mode m (after p list))) answer_is ∙ sym fetch.place in
-    (walk.0, subst (λ q. Walks (answers_of s) (number_of s) s.mode p n pieces q walk.0) place_is
-      (subst (λ list. Walks (answers_of s) (number_of s) s.mode p n list (moved s.mode p (taken s.mode m (after p (answers_of s (number_of s))))) walk.0) pieces_are walk.1))
+    ap (λ list. moved s.mode p (taken s.mode m (after p list))) answer_is ∙ sym fetch.place in (
+      walk.0,
+      subst (λ q. Walks (answers_of s) (number_of s) s.mode p n pieces q walk.0) place_is
+          (subst (λ list. Walks (answers_of s) (number_of s) s.mode p n list (moved s.mode p (taken s.mode m (after p (answers_of s (number_of s))))) walk.0) pieces_are walk.1),
+    )

@@ -28,7 +28,7 @@ behind_ends mode m last (e ∷ es) = by_answer (eqb m 0 && not (together mode la
     by_answer : (b : Bool) → (eqb m 0 && not (together mode last e)) ≡ b
         → (rest : List Cell) × (es ≡ taken_behind mode (m - 1) e es ++ rest) × EndsWell mode (e ∷ taken_behind mode (m - 1) e es) rest
         → (rest : List Cell) × (e ∷ es ≡ cond b [] (e ∷ taken_behind mode (m - 1) e es) ++ rest)
-            × EndsWell mode (last ∷ cond b [] (e ∷ taken_behind mode (m - 1) e es)) rest
+        × EndsWell mode (last ∷ cond b [] (e ∷ taken_behind mode (m - 1) e es)) rest
     by_answer true h k = (e ∷ es, refl, second (eqb m 0) (together mode last e) h)
     by_answer false h k = (k.0, ap (λ l. e ∷ l) k.1, ends_longer mode last e (taken_behind mode (m - 1) e es) k.0 k.2)
 
@@ -65,7 +65,7 @@ unfolding taken_behind last_of
 no_more_behind mode m last [] [] h ends = omega arith
 no_more_behind mode m last [] (x ∷ xs) h ends =
     let none : length (cond (eqb m 0 && not (together mode last x)) [] (x ∷ taken_behind mode (m - 1) x xs)) ≡ 0 =
-        ap (λ b. length (cond b [] (x ∷ taken_behind mode (m - 1) x xs))) (stops m (together mode last x) h ends) in omega arith
+    ap (λ b. length (cond b [] (x ∷ taken_behind mode (m - 1) x xs))) (stops m (together mode last x) h ends) in omega arith
   where
     stops : (m : ℕ) (t : Bool) → m ≤ 0 → t ≡ false → (eqb m 0 && not t) ≡ true
     stops m t h e = grind arith

@@ -18,8 +18,8 @@ nothing_skipped answers most mode p q n k l (x ∷ pieces) up at w =
     let piece : IsPieceOf mode x.entries (after p (answers k)) = subst (λ j. IsPieceOf mode x.entries (after p (answers j))) at.0 w.2 in
     piece.whole
     ∙ ap (λ l. x.entries ++ l)
-        (sym (behind_piece mode p (answers k) x.entries piece.rest up piece.whole piece.ends)
-        ∙ nothing_skipped answers most mode (moved mode p x.entries) q x.n k l pieces up at.1 w.3)
+    (sym (behind_piece mode p (answers k) x.entries piece.rest up piece.whole piece.ends)
+    ∙ nothing_skipped answers most mode (moved mode p x.entries) q x.n k l pieces up at.1 w.3)
     ∙ sym (append_assoc x.entries (joined pieces) (after q (answers k)))
 
 -- everything lies behind the start

@@ -47,11 +47,11 @@ impl Model for Session {
     ghost Value = { SessionState };
 
     ghost view = { λ s. record {
-        view = arc_value s.view;
-        range = s.range;
-        families = s.families;
-        mode = mode_of s.isolated;
-        place = place_of s.position;
+      view = arc_value s.view;
+      range = s.range;
+      families = s.families;
+      mode = mode_of s.isolated;
+      place = place_of s.position;
     } };
 
     ghost invariant = { λ s. IsAtMostRow s.position };
@@ -67,11 +67,11 @@ impl Session {
         view: Arc<View>,
     ) -> Result<Session, NoMemory>
         ensures { IfOk result (λ session. session ≡ record {
-            view = arc_value view;
-            range = span_of range.now;
-            families = families.now;
-            mode = mode_of isolated;
-            place = Start;
+          view = arc_value view;
+          range = span_of range.now;
+          families = families.now;
+          mode = mode_of isolated;
+          place = Start;
         }) }
     {
         let range = RangeBuf::of(alloc, range)?;
@@ -113,8 +113,7 @@ impl Session {
     /// takes no memory.
     pub fn drop_stack(&mut self)
         ensures { self.new ≡ self.old }
-    {
-    }
+    {}
 
     /// The stack of its view's iterators for scans, sought behind its position: what is left of the session's answer. It
     /// takes memory, and so may the calls of the stack.
@@ -165,8 +164,13 @@ impl Session {
     {
         let view = newest(&self.view, views)?;
         let source = self.remaining_over(alloc, &view)?;
-        let (fetched, position) =
-            fetched_from(alloc, source, self.isolated, count, view.mutations())?;
+        let (fetched, position) = fetched_from(
+            alloc,
+            source,
+            self.isolated,
+            count,
+            view.mutations(),
+        )?;
         self.go_on(view, position);
         Ok(fetched)
     }

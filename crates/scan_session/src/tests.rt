@@ -1,4 +1,4 @@
-ghost use Rattle.std.specs.Prelude.{◌≡◌, ◌+◌, ◌^◌, ◌<◌, ◌≤◌, true, Some, IfOk};
+ghost use Rattle.std.specs.Prelude.{◌≡◌, ◌+◌, ◌^◌, ◌<◌, true, Some, IfOk};
 ghost use Rattle.std.specs.Arc.{arc_value};
 ghost use Rattle.tablet_view.specs.Extending.{Extends};
 
@@ -97,14 +97,12 @@ fn append(alloc: Global, text: &mut String, fetched: &Fetched) -> Result<(), Fai
     Ok(())
 }
 
-/// What four fetches give.
-fn fetched(alloc: Global, session: &mut Session, count: u32) -> Result<String, Fail>
-    requires { 1 ≤ count }
-{
+/// What four fetches give, each of one entry at least.
+fn fetched(alloc: Global, session: &mut Session, count: u32) -> Result<String, Fail> {
     let mut views = Still::new();
     let mut text = String::new(alloc);
     for _ in 0..4 {
-        let fetched = session.fetch(alloc, &mut views, count)?;
+        let fetched = session.fetch(alloc, &mut views, count.max(1))?;
         append(alloc, &mut text, &fetched)?;
     }
     Ok(text)
@@ -129,27 +127,63 @@ fn fetches_give_the_answer_in_pieces(rt: HostRuntime) -> Result<(), Fail> {
     Ok(())
 }
 
+/// The first value that is left of a session over a view that follows its own.
+fn first_left(
+    alloc: Global,
+    session: &mut Session,
+    view: Arc<View>,
+) -> Result<Option<ByteText>, Fail>
+    requires { Extends (arc_value view) session.old.view }
+{
+    session.renew(view);
+    session.drop_stack();
+    let left = session.remaining(alloc)?;
+    match left.top() {
+        Some(entry) => Ok(Some(ByteText::of(alloc, entry.value)?)),
+        None => Ok(None),
+    }
+}
+
 #[test]
 fn sessions_go_on_over_newer_views(rt: HostRuntime) -> Result<(), Fail> {
     let alloc = rt.alloc();
     let one = grown(alloc, &empty(alloc)?, b"1", &[b"x", b"y"])?;
     let two = grown(alloc, &one, b"2", &[b"z"])?;
     let mut session = over_all(alloc, &one, true)?;
-    assert_eq!(rt; fetched(alloc, &mut session, 2)?.as_str(), "1:xy ....");
-    session.renew(Arc::try_clone(&two)?);
-    session.drop_stack();
-    assert_eq!(rt; (session.n(), session.view().version()), (2, 2));
-    let left = session.remaining(alloc)?;
-    assert_eq!(rt; left.top().map(|entry| entry.value), Some(b"z".as_slice()));
+    assert_eq!(rt; (session.n(), session.view().version()), (1, 1));
+    let left = first_left(alloc, &mut session, two)?;
+    assert_eq!(rt;
+        left.as_ref().map(|value| value.bytes()),
+        Some(b"x".as_slice())
+    );
+    assert_eq!(rt; fetched(alloc, &mut session, 2)?.as_str(), "2:xy 2:z ...");
+    Ok(())
+}
 
+/// What a fetch gives where newer views are shown.
+fn fetched_once(alloc: Global, session: &mut Session, shown: &mut Shown) -> Result<String, Fail>
+    requires { Extends (arc_value shown.old.view) session.old.view }
+{
+    let fetched = session.fetch(alloc, shown, 3)?;
+    let mut text = String::new(alloc);
+    append(alloc, &mut text, &fetched)?;
+    Ok(text)
+}
+
+#[test]
+fn a_fetch_looks_once_for_a_newer_view(rt: HostRuntime) -> Result<(), Fail> {
+    let alloc = rt.alloc();
+    let one = grown(alloc, &empty(alloc)?, b"1", &[b"x", b"y"])?;
+    let two = grown(alloc, &one, b"2", &[b"z"])?;
     let mut session = over_all(alloc, &one, false)?;
     let mut shown = Shown {
         view: two,
         questions: 0,
     };
-    let fetched = session.fetch(alloc, &mut shown, 3)?;
-    let mut text = String::new(alloc);
-    append(alloc, &mut text, &fetched)?;
-    assert_eq!(rt; (text.as_str(), shown.questions), ("2:xyz .", 1));
+    assert_eq!(rt;
+        fetched_once(alloc, &mut session, &mut shown)?.as_str(),
+        "2:xyz ."
+    );
+    assert_eq!(rt; shown.questions, 1);
     Ok(())
 }

@@ -1,5 +1,5 @@
 -- A mutation comes in.
-use Rattle.std.proofs.Common.{◌≡◌, ℕ, ◌+◌, ◌≤◌, cond, ◌∷◌, [], ◌++◌, length, Option, Some, None, is_some, option_map, refl, sym, ap, arith, pos, length-append}
+use Rattle.std.proofs.Common.{◌≡◌, ℕ, ◌+◌, ◌≤◌, cond, ◌∷◌, [], ◌++◌, length, Option, None, is_some, option_map, refl, sym, ap, arith, pos, length-append}
 use Rattle.tablet_model.specs.History.{RowChange, entries_of}
 use Rattle.tablet_model.specs.Ingest.{Refusal}
 use Rattle.tablet_model.specs.Steps.{applied as came_in, apply, logged, refuse, refused, step, step_answer}

@@ -1,5 +1,5 @@
 -- The file at a place, and what is behind and before it.
-use Rattle.std.proofs.Common.{◌≡◌, ◌||◌, ◌&&◌, ℕ, zero, suc, ◌+◌, ◌<◌, Bool, false, ◌≢◌, List, [], ◌∷◌, ◌++◌, length, map, take, drop, cond, eqb, slice_get, Option, Some, None, option_map, refl, sym, ap, ◌∙◌, subst, arith, add-one}
+use Rattle.std.proofs.Common.{◌≡◌, ◌||◌, ◌&&◌, ℕ, zero, suc, ◌+◌, ◌<◌, false, ◌≢◌, List, [], ◌∷◌, ◌++◌, length, map, take, drop, eqb, slice_get, Some, None, option_map, refl, sym, ap, ◌∙◌, subst, arith, add-one}
 use Rattle.std.specs.List.{AllByRecursion}
 use Rattle.std.specs.Option.{option_or}
 use Rattle.std.proofs.lemmas.List.{map-append}

@@ -1,6 +1,6 @@
 -- A job's file stands in the place of its files.
-use Rattle.std.proofs.Common.{◌≡◌, ℕ, ◌+◌, ◌≤◌, Bool, true, false, cond, not, eqb, List, [], ◌∷◌, ◌++◌, length, map, take, Option, Some, None, IfSome, is_some, option_map, inl, inr, refl, sym, ap, ◌∙◌, subst, arith}
-use Rattle.std.specs.List.{AllByRecursion, filter, flat_map}
+use Rattle.std.proofs.Common.{◌≡◌, ℕ, ◌+◌, ◌≤◌, Bool, true, false, cond, not, eqb, List, [], ◌∷◌, ◌++◌, length, map, take, Option, Some, None, IfSome, is_some, option_map, inl, inr, refl, sym, ap, ◌∙◌, arith}
+use Rattle.std.specs.List.{filter, flat_map}
 use Rattle.std.proofs.lemmas.Bool.{eqb-true}
 use Rattle.std.proofs.lemmas.List.{map-append}
 use Rattle.tablet_model.specs.Cell.{Cell}
@@ -18,11 +18,9 @@ use Rattle.stage_laws.proofs.Jobs.{fewer, found_job}
 use Rattle.stage_laws.proofs.JobsStay.{all_true}
 use Rattle.stage_laws.proofs.Standing.{parts}
 use Rattle.iter_config.specs.RulesOf.{rules_of}
-use Rattle.iter_config.specs.declared.iter_spec.IterSpec.{IterSpec}
 use Rattle.iter_stack.specs.Jobs.{Compaction, compacted}
 use Rattle.iter_stack.specs.Usages.{usage_cells}
-use Rattle.iter_stack.specs.declared.usage.Usage.{Usage}
-use Rattle.iter_stack.specs.declared.usage.Usage.TheVariants.{MajcFull, MajcPart, Scan}
+use Rattle.iter_stack.specs.declared.usage.Usage.TheVariants.{MajcFull, MajcPart}
 use Rattle.tablet_view.specs.Snapshot.{IsMajorOf, IsStanding, OthersAreNewer, Snapshot, replaced, store_of}
 use Rattle.tablet_view.proofs.Orders.{extends_replaced}
 use Rattle.tablet_core.specs.Jobs.{major_of}

@@ -1,5 +1,5 @@
 -- The frozen part becomes a file.
-use Rattle.std.proofs.Common.{◌≡◌, ℕ, ◌+◌, ◌<◌, ◌≤◌, Bool, true, false, cond, not, List, [], ◌∷◌, ◌++◌, length, nat_lt, Option, Some, None, IfSome, IsSome, is_some, option_map, unwrap_or, refl, sym, ap, ◌∙◌, subst, arith, append-nil}
+use Rattle.std.proofs.Common.{◌≡◌, ℕ, ◌+◌, ◌<◌, ◌≤◌, Bool, true, false, cond, not, List, [], ◌∷◌, ◌++◌, length, nat_lt, Option, Some, None, IfSome, is_some, option_map, unwrap_or, refl, sym, ap, ◌∙◌, subst, arith, append-nil}
 use Rattle.tablet_model.specs.Cell.{Cell}
 use Rattle.tablet_model.specs.Compactions.{minor_compaction}
 use Rattle.tablet_model.specs.Order.{above}

@@ -1,5 +1,5 @@
 -- Steps of a core in general: refused, without memory, and made.
-use Rattle.std.proofs.Common.{◌≡◌, ℕ, ◌+◌, ◌≤◌, Bool, true, false, cond, List, [], Option, Some, None, is_some, unwrap_or, refl, sym, ap, ◌∙◌, subst, arith}
+use Rattle.std.proofs.Common.{◌≡◌, ℕ, ◌+◌, ◌≤◌, cond, List, [], Option, Some, None, is_some, unwrap_or, refl, sym, ap, ◌∙◌, subst, arith}
 use Rattle.tablet_model.specs.Rules.{Rules}
 use Rattle.tablet_model.specs.Stands.{Stands, StandsInJobs}
 use Rattle.tablet_model.specs.Steps.{Event, StepAnswer, answered, logged, refuse, step, step_answer, stepped}

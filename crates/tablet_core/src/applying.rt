@@ -20,7 +20,7 @@ impl Core {
         requires { self.now.view.version < 2 ^ 63 }
         ensures { MatchResult result
             (λ view. (refused_by self.now.view (row_change_of mutation.now) ≡ None)
-                × (arc_value view ≡ applied self.now.view (row_change_of mutation.now)))
+            × (arc_value view ≡ applied self.now.view (row_change_of mutation.now)))
             (λ error. refused_by self.now.view (row_change_of mutation.now) ≡ refusal_in error) }
     {
         let view = self.view.apply(alloc, mutation)?;

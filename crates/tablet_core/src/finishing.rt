@@ -26,7 +26,11 @@ use tablet_view::View;
 fn usage_of(full: bool) -> Usage
     ensures { result ≡ cond full Usage.MajcFull Usage.MajcPart }
 {
-    if full { Usage::MajcFull } else { Usage::MajcPart }
+    if full {
+        Usage::MajcFull
+    } else {
+        Usage::MajcPart
+    }
 }
 
 /// The entries of each of some files of a view.
@@ -74,7 +78,7 @@ impl Core {
         requires made { IfSome (find_job job self.now.jobs) (λ t. compacted done.now ≡ made_by (rules_of self.now.view.config) (state_of self.now) t) }
         ensures { MatchResult result
             (λ view. option_map (λ v. arc_value v) view
-                ≡ option_map (λ t. replaced self.now.view t.ids self.now.next (compacted done.now)) (find_job job self.now.jobs))
+            ≡ option_map (λ t. replaced self.now.view t.ids self.now.next (compacted done.now)) (find_job job self.now.jobs))
             (λ _. is_some (find_job job self.now.jobs) ≡ true) }
     {
         match self.jobs.find(job) {

@@ -59,10 +59,7 @@ impl Log {
     }
 }
 
-fn shared(
-    alloc: Global,
-    mutations: &[Arc<Mutation>],
-) -> Result<Vec<Arc<Mutation>>, NoMemory>
+fn shared(alloc: Global, mutations: &[Arc<Mutation>]) -> Result<Vec<Arc<Mutation>>, NoMemory>
     ensures { IfOk result (λ list. map (λ m. arc_value m) list.items ≡ map (λ m. arc_value m) mutations.now) }
 {
     let mut list = Vec::new(alloc);

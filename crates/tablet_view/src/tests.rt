@@ -1,4 +1,4 @@
-ghost use Rattle.std.specs.Prelude.{◌≡◌, ◌+◌, ◌<◌, ◌^◌, [], None, length, IsSome, IfOk};
+ghost use Rattle.std.specs.Prelude.{◌≡◌, ◌<◌, ◌^◌, length, IsSome, IfOk};
 ghost use Rattle.tablet_model.specs.Stands.{AreBelow};
 
 use super::*;
@@ -23,44 +23,40 @@ deletes = 'full'
 scopes = ['scan', 'minc', 'majc']
 ";
 
-/// The view of no mutations.
-fn opened(alloc: Global) -> Result<View, Fail>
-    ensures version { IfOk result (λ view. view.version ≡ 0) }
-    ensures files { IfOk result (λ view. view.files ≡ []) }
-    ensures frozen { IfOk result (λ view. view.frozen ≡ None) }
-{
-    let config = Arc::new(alloc, read_config(alloc, DOCUMENT)?)?;
-    Ok(View::open(alloc, config)?)
+/// What becomes of a view.
+#[derive(Clone, Copy)]
+enum Step {
+    /// A mutation comes in that puts a value in the family `s` and another in `t`, or deletes in `v`.
+    Put(u8),
+    Delete(u8),
+    Freeze,
+    /// The frozen part is written to the first file.
+    Flush,
+    /// The one file is compacted to another.
+    Compact,
 }
 
-/// A mutation of the row `r` with changes of columns `FAMILY::`: puts, and deletes where there is no value.
-fn mutation(alloc: Global, changes: &[(&[u8], Option<&[u8]>)]) -> Result<Mutation, Fail> {
+/// An update of the column `FAMILY::`: a put of one byte, and a delete where there is none.
+fn update(alloc: Global, family: u8, value: Option<u8>) -> Result<Update, Fail> {
+    let value = match value {
+        Some(value) => Some(ByteText::of(alloc, &[value])?),
+        None => None,
+    };
+    Ok(Update {
+        family: ByteText::of(alloc, &[family])?,
+        qualifier: ByteText::new(alloc),
+        visibility: ByteText::new(alloc),
+        value,
+    })
+}
+
+/// A mutation of two updates, in the families `s` and `other`.
+fn mutation(alloc: Global, s: u8, other: u8, value: Option<u8>) -> Result<Mutation, Fail> {
     let mut updates = Updates::new(alloc);
-    for (family, value) in changes {
-        let value = match value {
-            Some(value) => Some(ByteText::of(alloc, value)?),
-            None => None,
-        };
-        updates.push(Update {
-            family: ByteText::of(alloc, family)?,
-            qualifier: ByteText::new(alloc),
-            visibility: ByteText::new(alloc),
-            value,
-        })?;
-    }
+    updates.push(update(alloc, b's', Some(s))?)?;
+    updates.push(update(alloc, other, value)?)?;
     let row = ByteText::of(alloc, b"r")?;
     Ok(Mutation { row, updates })
-}
-
-/// The view where a mutation of these changes came in.
-fn changed(alloc: Global, view: &View, changes: &[(&[u8], Option<&[u8]>)]) -> Result<View, Fail>
-    requires { view.now.version < 2 ^ 63 }
-    ensures version { IfOk result (λ next. next.version ≡ view.now.version + 1) }
-    ensures files { IfOk result (λ next. next.files ≡ view.now.files) }
-    ensures frozen { IfOk result (λ next. next.frozen ≡ view.now.frozen) }
-{
-    let mutation = mutation(alloc, changes)?;
-    Ok(view.apply(alloc, &mutation)?)
 }
 
 /// The view where the frozen part is written to a file of this number.
@@ -68,8 +64,6 @@ fn flushed(alloc: Global, view: &View, id: u64) -> Result<View, Fail>
     requires version { view.now.version < 2 ^ 63 }
     requires frozen { IsSome view.now.frozen }
     requires above { AreBelow id view.now.files }
-    ensures version { IfOk result (λ next. next.version ≡ view.now.version + 1) }
-    ensures count { IfOk result (λ next. length next.files ≡ length view.now.files + 1) }
 {
     let mut parts = Vec::new(alloc);
     parts.push(view.frozen_cursor(alloc)?)?;
@@ -91,6 +85,26 @@ fn compacted(alloc: Global, view: &View, id: u64) -> Result<View, Fail>
     let config = Arc::try_clone(view.config())?;
     let done = Job::new(alloc, config, Usage::MajcPart, parts)?.run(alloc)?;
     Ok(view.install_major(alloc, &ids, id, &done)?)
+}
+
+/// The view after a step.
+#[tactic(auto, using(crate::proofs::ExampleFiles::none_below, crate::proofs::ExampleFiles::one_below))]
+fn stepped(alloc: Global, view: &View, step: Step) -> Result<View, Fail> {
+    if view.version() > 100 {
+        return Err("there are too many steps".into());
+    }
+    match step {
+        Step::Put(s) => Ok(view.apply(alloc, &mutation(alloc, s, b't', Some(s))?)?),
+        Step::Delete(s) => Ok(view.apply(alloc, &mutation(alloc, s, b'v', None)?)?),
+        Step::Freeze if view.frozen_count().is_none() => Ok(view.freeze(alloc)?),
+        Step::Flush if view.frozen_count().is_some() && view.file_count() == 0 => {
+            flushed(alloc, view, 1)
+        }
+        Step::Compact if view.file_count() == 1 && view.file_at(0).0 < 2 => compacted(
+            alloc, view, 2,
+        ),
+        _ => Err("the step does not fit the view".into()),
+    }
 }
 
 /// What a copy of a source has: family, time and value of each entry, and `!` for a marker.
@@ -115,63 +129,109 @@ fn left_in<S: SortedSource>(alloc: Global, source: &S) -> Result<String, Fail>
     Ok(left)
 }
 
-/// What a scan of some families answers.
+/// What a scan of some families answers, behind the entries that a view has in them.
 fn scanned(alloc: Global, view: &View, families: &Families) -> Result<String, Fail> {
     let source = view.source(alloc, families)?;
+    let mut text = left_in(alloc, &source)?;
+    text.push_str("/ ")?;
     let stack = build(alloc, view.config(), Usage::Scan, source)?;
-    left_in(alloc, &stack)
+    text.push_str(left_in(alloc, &stack)?.as_str())?;
+    Ok(text)
+}
+
+/// How many mutations, files, and entries in the first file, the frozen part and the memory a view has.
+fn counts(view: &View) -> (u64, usize, u64, u64, u64) {
+    let written = if view.file_count() == 0 {
+        0
+    } else {
+        view.file_at(0).1
+    };
+    let frozen = view.frozen_count().unwrap_or(0);
+    (
+        view.mutations(),
+        view.file_count(),
+        written,
+        frozen,
+        view.memory_count(),
+    )
+}
+
+/// The view of no mutations.
+fn opened(alloc: Global) -> Result<View, Fail>
+    ensures { IfOk result (λ view. view.version ≡ 0) }
+{
+    let config = Arc::new(alloc, read_config(alloc, DOCUMENT)?)?;
+    Ok(View::open(alloc, config)?)
 }
 
 #[test]
-fn views_hold_what_came_in(rt: HostRuntime) -> Result<(), Fail> {
+fn each_step_keeps_what_came_in(rt: HostRuntime) -> Result<(), Fail> {
     let alloc = rt.alloc();
-    let empty = opened(alloc)?;
-    let one = changed(alloc, &empty, &[(b"s", Some(b"1")), (b"v", Some(b"old"))])?;
-    let two = changed(alloc, &one, &[(b"s", Some(b"2")), (b"v", None)])?;
-    assert_eq!(rt; (two.mutations(), two.version(), two.memory_count()), (2, 2, 4));
-    assert!(rt; two.begins_with(&one) && two.begins_with(&empty) && !one.begins_with(&two));
-    let other = changed(alloc, &one, &[(b"s", Some(b"3"))])?;
-    assert!(rt; !two.begins_with(&other) && !other.begins_with(&two));
-
-    let twice = mutation(alloc, &[(b"v", Some(b"1")), (b"v", Some(b"2"))])?;
-    assert_eq!(rt;
-        two.apply(alloc, &twice).err(),
-        Some(ApplyError::Refused(Refused::Duplicate { at: 2 }))
-    );
+    let mut view = opened(alloc)?;
+    let steps = [
+        (Step::Put(b'1'), (1, 0, 0, 0, 2), "s1=1 t1=1 / s1=1 t1=1 "),
+        (
+            Step::Delete(b'2'),
+            (2, 0, 0, 0, 4),
+            "s2=2 s1=1 t1=1 v2! / s2=3 t1=1 ",
+        ),
+        (
+            Step::Freeze,
+            (2, 0, 0, 4, 0),
+            "s2=2 s1=1 t1=1 v2! / s2=3 t1=1 ",
+        ),
+        (
+            Step::Put(b'5'),
+            (3, 0, 0, 4, 2),
+            "s3=5 s2=2 s1=1 t3=5 t1=1 v2! / s3=8 t3=5 t1=1 ",
+        ),
+        (
+            Step::Flush,
+            (3, 1, 3, 0, 2),
+            "s3=5 s2=3 t3=5 t1=1 v2! / s3=8 t3=5 t1=1 ",
+        ),
+        (
+            Step::Compact,
+            (3, 1, 3, 0, 2),
+            "s3=5 s2=3 t3=5 t1=1 v2! / s3=8 t3=5 t1=1 ",
+        ),
+    ];
+    let all = Families::all();
+    for (step, want, answers) in steps {
+        let next = stepped(alloc, &view, step)?;
+        assert_eq!(rt; counts(&next), want);
+        assert_eq!(rt; scanned(alloc, &next, &all)?.as_str(), answers);
+        assert!(rt; next.begins_with(&view));
+        assert_eq!(rt;
+            view.begins_with(&next),
+            view.mutations() == next.mutations()
+        );
+        view = next;
+    }
     Ok(())
 }
 
 #[test]
-fn scans_answer_whatever_was_written(rt: HostRuntime) -> Result<(), Fail> {
+fn sources_have_the_chosen_families(rt: HostRuntime) -> Result<(), Fail> {
     let alloc = rt.alloc();
-    let empty = opened(alloc)?;
-    let one = changed(alloc, &empty, &[(b"s", Some(b"1")), (b"v", Some(b"old"))])?;
-    let two = changed(alloc, &one, &[(b"s", Some(b"2")), (b"v", None)])?;
-    let frozen = two.freeze(alloc)?;
-    let more = changed(alloc, &frozen, &[(b"s", Some(b"5")), (b"t", Some(b"new"))])?;
-    assert_eq!(rt; (more.memory_count(), more.frozen_count()), (2, Some(4)));
-    let written = flushed(alloc, &more, 1)?;
-    assert_eq!(rt; (written.memory_count(), written.frozen_count()), (2, None));
-    assert_eq!(rt; (written.file_count(), written.file_at(0)), (1, (1, 2)));
-    let major = compacted(alloc, &written, 2)?;
-    assert_eq!(rt; (major.file_count(), major.file_at(0)), (1, (2, 2)));
-    assert!(rt; major.begins_with(&written) && written.begins_with(&major));
+    let view = stepped(alloc, &opened(alloc)?, Step::Put(b'1'))?;
+    let view = stepped(alloc, &view, Step::Delete(b'2'))?;
+    let families = Families::of(
+        alloc,
+        &[ByteText::of(alloc, b"x")?, ByteText::of(alloc, b"t")?],
+    )?;
+    assert_eq!(rt; scanned(alloc, &view, &families)?.as_str(), "t1=1 / t1=1 ");
+    Ok(())
+}
 
-    let all = Families::all();
-    let some = Families::of(alloc, &[ByteText::of(alloc, b"v")?, ByteText::of(alloc, b"t")?])?;
-    let entries = [
-        (&two, "s2=2 s1=1 v2! v1=old ", "v2! v1=old "),
-        (&more, "s3=5 s2=2 s1=1 t3=new v2! v1=old ", "t3=new v2! v1=old "),
-        (&written, "s3=5 s2=3 t3=new v2! ", "t3=new v2! "),
-        (&major, "s3=5 s2=3 t3=new v2! ", "t3=new v2! "),
-    ];
-    for (view, in_all, in_some) in entries {
-        assert_eq!(rt; left_in(alloc, &view.source(alloc, &all)?)?.as_str(), in_all);
-        assert_eq!(rt; left_in(alloc, &view.source(alloc, &some)?)?.as_str(), in_some);
-    }
-    for view in [&more, &written, &major] {
-        assert_eq!(rt; scanned(alloc, view, &all)?.as_str(), "s3=8 t3=new ");
-        assert_eq!(rt; scanned(alloc, view, &some)?.as_str(), "t3=new ");
-    }
+#[test]
+fn refused_mutations_are_told(rt: HostRuntime) -> Result<(), Fail> {
+    let alloc = rt.alloc();
+    let mutation = mutation(alloc, b'1', b's', Some(b'2'))?;
+    let refused = opened(alloc)?.apply(alloc, &mutation).err();
+    assert_eq!(rt;
+        refused,
+        Some(ApplyError::Refused(Refused::Duplicate { at: 2 }))
+    );
     Ok(())
 }

@@ -83,7 +83,7 @@ impl View {
         requires { self.now.version < 2 ^ 63 }
         ensures { MatchResult result
             (λ view. (refused_by self.now (row_change_of mutation.now) ≡ None)
-                × (view ≡ applied self.now (row_change_of mutation.now)))
+            × (view ≡ applied self.now (row_change_of mutation.now)))
             (λ error. refused_by self.now (row_change_of mutation.now) ≡ refusal_in error) }
     {
         if let Some(refused) = ingest::check(&self.config, self.log.len() as u64, mutation) {
@@ -146,7 +146,9 @@ impl View {
     {
         let config = Arc::try_clone(&self.config)?;
         let log = Arc::try_clone(&self.log)?;
-        let files = self.files.with(alloc, &FileIds::new(alloc), id, done.file())?;
+        let files = self
+            .files
+            .with(alloc, &FileIds::new(alloc), id, done.file())?;
         let files = Arc::new(alloc, files)?;
         let memory = Arc::try_clone(&self.memory)?;
         Ok(View {

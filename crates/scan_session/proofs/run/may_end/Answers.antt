@@ -9,6 +9,6 @@ use Rattle.scan_session.proofs.run.may_end.Goals as goal
 pub returns-then-count-len : goal.returns-then-count-len
 returns-then-count-len c =
     let is_last : Some c.in-Some.last.now ≡ slice_get c.args.run.now (length c.args.run.now - 1) =
-        c.in-Some.ensures.value ∙ ap (λ l. slice_get l (length l - 1)) c.as_slice.ensures in
+    c.in-Some.ensures.value ∙ ap (λ l. slice_get l (length l - 1)) c.as_slice.ensures in
     let e = may_end_behind (mode_of c.args.isolated) c.args.count c.args.run.now c.in-Some.last.now (cell_of c.args.next) is_last in
     grind (arith, nat_tests)

@@ -8,4 +8,4 @@ pub returns-in_ok-position_behind-in-Some-clause-place : goal.returns-in_ok-posi
 returns-in_ok-position_behind-in-Some-clause-place c = λ old.
     c.in_ok-position_behind-in-Some.ensures.place
     ∙ moved_behind (mode_of c.args.isolated) c.args.run.now c.in-Some.last.now old
-        (c.in-Some.ensures.value ∙ ap (λ l. slice_get l (length l - 1)) c.as_slice.ensures)
+    (c.in-Some.ensures.value ∙ ap (λ l. slice_get l (length l - 1)) c.as_slice.ensures)

@@ -17,7 +17,7 @@ loop-next-preserved g c =
     record {
       valid = c.next.ensures.valid;
       taken = run_goes_on mode c.args.count c.loop-next.run list (taken mode c.args.count all) c.push.new.self left next
-        c.in-Some.ensures c.if-may_end.ensures pushed c.in_ok-next.ensures.rest c.loop-next.invariant.taken;
+          c.in-Some.ensures c.if-may_end.ensures pushed c.in_ok-next.ensures.rest c.loop-next.invariant.taken;
       left = rest_goes_on c.loop-next.run list all c.push.new.self left next c.in-Some.ensures pushed c.in_ok-next.ensures.rest c.loop-next.invariant.left;
     }
 
@@ -27,6 +27,6 @@ returns-clause-run g c =
     let list : List Cell = g.S.SortedSource.rest c.loop-next.source in
     let whole : List Cell = taken mode c.args.count (g.S.SortedSource.rest c.args.source.now) in
     elim c.match-top.branch [
-      in-Some+then-may_end w ↦ run_ends mode c.args.count c.loop-next.run list whole (cell_of w.in-Some.next) w.in-Some.ensures w.if-may_end.ensures c.loop-next.invariant.taken
-    | in_default w ↦ run_is_all mode c.args.count c.loop-next.run list whole w.in_default.ensures c.loop-next.invariant.taken
+      | in-Some+then-may_end w ↦ run_ends mode c.args.count c.loop-next.run list whole (cell_of w.in-Some.next) w.in-Some.ensures w.if-may_end.ensures c.loop-next.invariant.taken
+      | in_default w ↦ run_is_all mode c.args.count c.loop-next.run list whole w.in_default.ensures c.loop-next.invariant.taken
     ]

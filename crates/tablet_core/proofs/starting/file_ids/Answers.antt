@@ -1,11 +1,7 @@
-use Rattle.std.proofs.Common.{◌≡◌, ◌||◌, ◌&&◌, ◌<◌, ◌≤◌, ◌+◌, ◌++◌, ◌∷◌, [], ℕ, List, Bool, true, false, not, length, drop, take, eqb, Some, None, option_map, sym, ap, subst, ◌∙◌, arith}
+use Rattle.std.proofs.Common.{◌<◌, ◌++◌, ◌∷◌, [], ℕ, List, sym, ap, subst, ◌∙◌, arith}
 use Rattle.std.specs.List.{AllByRecursion}
-use Rattle.std.specs.Option.{option_or}
-use Rattle.std.proofs.lemmas.Bool.{eq-eqb}
-use Rattle.std.proofs.lemmas.List.{at_drop_all}
-use Rattle.tablet_model.specs.Steps.{first_taken, ids_of, in_job, takes_all}
-use Rattle.tablet_model.specs.Store.{has_id}
-use Rattle.tablet_core.proofs.FilesAt.{FileAt, apart, file_at, has_id_at, ids_at, rising_at, taken_at, takes_at}
+use Rattle.tablet_model.specs.Steps.{ids_of}
+use Rattle.tablet_core.proofs.FilesAt.{FileAt, file_at, ids_at, rising_at}
 use Rattle.tablet_core.proofs.starting.file_ids.Goals as goal
 
 pub loop-i-init : goal.loop-i-init

@@ -1,10 +1,8 @@
-use Rattle.std.proofs.Common.{◌≡◌, ◌||◌, ◌&&◌, ◌<◌, ◌≤◌, ◌+◌, ◌++◌, ◌∷◌, [], Bool, true, false, not, length, drop, take, eqb, Some, None, option_map, sym, ap, subst, ◌∙◌, arith}
-use Rattle.std.specs.Option.{option_or}
-use Rattle.std.proofs.lemmas.Bool.{eq-eqb}
+use Rattle.std.proofs.Common.{◌≡◌, ◌&&◌, ◌+◌, true, false, drop, sym, ap, ◌∙◌, arith}
 use Rattle.std.proofs.lemmas.List.{at_drop_all}
-use Rattle.tablet_model.specs.Steps.{first_taken, ids_of, in_job, takes_all}
+use Rattle.tablet_model.specs.Steps.{takes_all}
 use Rattle.tablet_model.specs.Store.{has_id}
-use Rattle.tablet_core.proofs.FilesAt.{FileAt, apart, file_at, has_id_at, ids_at, rising_at, taken_at, takes_at}
+use Rattle.tablet_core.proofs.FilesAt.{FileAt, file_at, takes_at}
 use Rattle.tablet_core.proofs.starting.takes_all.Goals as goal
 
 pub returns-then-not-has : goal.returns-then-not-has

@@ -12,21 +12,21 @@ use Rattle.scan_session.proofs.session.Session.fetch.Goals as goal
 pub returns-clause-pieces : goal.returns-clause-pieces
 returns-clause-pieces g c =
     fetch_over c.args.count c.args.self.now c.go_on.new.self (arc_value c.in_ok-view.view) c.deref.result.now (mode_of c.self.inside.isolated)
-      (place_behind c.in_ok-fetched.position c.args.self.now.place) (stack_rest source_rest c.in_ok-source.source) c.mutations.result c.in_ok-fetched.fetched.pieces c.in_ok-fetched.fetched.ended
-      c.go_on.ensures
-      (ap (λ (s : SessionState). s.mode) c.self.view_is)
-      c.deref.ensures
-      c.in_ok-source.ensures.sorted
-      c.in_ok-source.ensures.rest
-      (c.mutations.ensures ∙ ap (λ v. length v.log) c.deref-2.ensures)
-      c.in_ok-fetched.ensures.pieces
-      (c.in_ok-fetched.ensures.place c.args.self.now.place)
-      c.in_ok-fetched.ensures.ended
+    (place_behind c.in_ok-fetched.position c.args.self.now.place) (stack_rest source_rest c.in_ok-source.source) c.mutations.result c.in_ok-fetched.fetched.pieces c.in_ok-fetched.fetched.ended
+    c.go_on.ensures
+    (ap (λ (s : SessionState). s.mode) c.self.view_is)
+    c.deref.ensures
+    c.in_ok-source.ensures.sorted
+    c.in_ok-source.ensures.rest
+    (c.mutations.ensures ∙ ap (λ v. length v.log) c.deref-2.ensures)
+    c.in_ok-fetched.ensures.pieces
+    (c.in_ok-fetched.ensures.place c.args.self.now.place)
+    c.in_ok-fetched.ensures.ended
 
 pub returns-clause-walk : goal.returns-clause-walk
 returns-clause-walk g c =
     let longer : length (arc_value c.self.inside.view).log ≤ length (arc_value c.in_ok-view.view).log =
-        begins_length (arc_value c.in_ok-view.view).log (arc_value c.self.inside.view).log c.in_ok-view.ensures.extends.log in
+    begins_length (arc_value c.in_ok-view.view).log (arc_value c.self.inside.view).log c.in_ok-view.ensures.extends.log in
     let before : length (arc_value c.self.inside.view).log ≡ number_of c.args.self.now = ap (λ (s : SessionState). number_of s) c.self.view_is in
     let after : number_of c.go_on.new.self ≡ length (arc_value c.in_ok-view.view).log = ap (λ (s : SessionState). number_of s) c.go_on.ensures in
     let more : number_of c.args.self.now ≤ number_of c.go_on.new.self = omega arith in

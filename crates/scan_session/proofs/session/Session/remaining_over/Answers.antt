@@ -27,9 +27,9 @@ returns-clause-rest c =
     let list : List Cell = usage_cells view.config Scan (in_families c.self.inside.families (entries_in view)) in
     let config : c.deref.result.now ≡ view.config = c.deref.ensures ∙ c.config.ensures.config in
     let cells : stack_cells source_cells c.in_ok-stack.stack ≡ list =
-        c.in_ok-stack.ensures.same_cells ∙ (λ i. usage_cells (config i) Scan (c.in_ok-source.ensures.source.same_cells i)) in
+    c.in_ok-stack.ensures.same_cells ∙ (λ i. usage_cells (config i) Scan (c.in_ok-source.ensures.source.same_cells i)) in
     sought_behind (span_of c.after.result) (span_of c.range.result) s.range s.place (stack_cells source_cells c.in_ok-stack.stack) list (answer_over s view.log)
-      (stack_rest source_rest c.seek.new.self) c.in_ok-seek.ensures.rest c.after.ensures c.range.ensures cells (c.in_ok-source.ensures.answers c.self.inside.range)
+    (stack_rest source_rest c.seek.new.self) c.in_ok-seek.ensures.rest c.after.ensures c.range.ensures cells (c.in_ok-source.ensures.answers c.self.inside.range)
     ∙ ap (λ (t : SessionState). left_of (record t { view = view })) c.self.view_is
 
 pub returns-clause-sorted : goal.returns-clause-sorted
@@ -38,7 +38,7 @@ returns-clause-sorted c =
     let list : List Cell = usage_cells view.config Scan (in_families c.self.inside.families (entries_in view)) in
     let config : c.deref.result.now ≡ view.config = c.deref.ensures ∙ c.config.ensures.config in
     let cells : stack_cells source_cells c.in_ok-stack.stack ≡ list =
-        c.in_ok-stack.ensures.same_cells ∙ (λ i. usage_cells (config i) Scan (c.in_ok-source.ensures.source.same_cells i)) in
+    c.in_ok-stack.ensures.same_cells ∙ (λ i. usage_cells (config i) Scan (c.in_ok-source.ensures.source.same_cells i)) in
     let P : SessionState → Type 0 = λ t. Ascends above (answer_over (record t { view = view }) view.log) in
     subst P c.self.view_is
-      (Ascends-within c.self.inside.range (stack_cells source_cells c.in_ok-stack.stack) list _ (stack_sorted source_cells source_sorted c.in_ok-stack.stack) cells (c.in_ok-source.ensures.answers c.self.inside.range))
+    (Ascends-within c.self.inside.range (stack_cells source_cells c.in_ok-stack.stack) list _ (stack_sorted source_cells source_sorted c.in_ok-stack.stack) cells (c.in_ok-source.ensures.answers c.self.inside.range))

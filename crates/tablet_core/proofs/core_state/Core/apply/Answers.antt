@@ -1,4 +1,4 @@
-use Rattle.std.proofs.Common.{Some, None, [], ◌++◌, ◌+◌, ◌∷◌, ap, length, length-append, subst, sym, ◌≡◌, ◌∙◌}
+use Rattle.std.proofs.Common.{Some, None, [], ◌+◌, ◌∷◌, ap, length, length-append, subst, sym, ◌≡◌, ◌∙◌}
 use Rattle.std.specs.Arc.{arc_value}
 use Rattle.tablet_model.specs.History.{RowChange}
 use Rattle.tablet_model.specs.Steps as model
@@ -33,5 +33,5 @@ returns-in-Ok c =
     let same : record { view = arc_value c.in-Ok.view; next = c.self.inside.next; jobs = c.self.inside.jobs } ≡ record c.args.self.now { view = applied c.args.self.now.view m } = (λ i. record { view = c.in-Ok.ensures.1 i; next = (c.self.view_is i).next; jobs = (c.self.view_is i).jobs }) in
     let number : c.mutations-number.result ≡ length c.args.self.now.view.log + 1 = c.mutations-number.ensures ∙ ap (λ v. length v.log) (c.deref.ensures ∙ c.in-Ok.ensures.1) ∙ length-append c.args.self.now.view.log (m ∷ []) in
     subst (λ (l : CoreState). Answers (model.apply m) c.args.self.now l (Some (model.applied c.mutations-number.result))) (sym same)
-      (subst (λ n. Answers (model.apply m) c.args.self.now (record c.args.self.now { view = applied c.args.self.now.view m }) (Some (model.applied n))) (sym number)
-        (made (model.apply m) c.args.self.now _ _ (apply_made c.args.self.now m c.in-Ok.ensures.0)))
+    (subst (λ n. Answers (model.apply m) c.args.self.now (record c.args.self.now { view = applied c.args.self.now.view m }) (Some (model.applied n))) (sym number)
+    (made (model.apply m) c.args.self.now _ _ (apply_made c.args.self.now m c.in-Ok.ensures.0)))

@@ -1,14 +1,10 @@
-use Rattle.std.proofs.Common.{◌≡◌, ◌++◌, ◌∷◌, [], ℕ, List, Bool, true, false, length, cond, is_ok, is_some, Option, Some, None, refl, sym, ap, subst, ◌∙◌}
-use Rattle.std.specs.Arc.{arc_value}
-use Rattle.tablet_model.specs.Stands.{AreRising}
+use Rattle.std.proofs.Common.{◌≡◌, Some, sym, ap, subst, ◌∙◌}
 use Rattle.tablet_model.specs.Steps as model
 use Rattle.tablet_model.specs.Steps.{StepAnswer, find_job, first_missing, first_taken, ids_of, is_empty, takes_all}
-use Rattle.tablet_model.specs.Store.{RunningJob}
-use Rattle.tablet_view.specs.Snapshot.{store_of}
 use Rattle.tablet_core.specs.Said.{said}
-use Rattle.tablet_core.specs.State.{Answers, CoreState, IsStandingCore}
+use Rattle.tablet_core.specs.State.{Answers, CoreState}
 use Rattle.tablet_core.proofs.Moves.{made, unmade}
-use Rattle.tablet_core.proofs.Starts.{all_answers, all_reason, all_there, ids_empty, mapped_some, no_length, some_length, start_keeps, start_made, start_reason}
+use Rattle.tablet_core.proofs.Starts.{start_made}
 use Rattle.tablet_core.proofs.core_state.Core.compact.Goals as goal
 
 pub returns-in-Some : goal.returns-in-Some
@@ -18,4 +14,4 @@ pub returns-in-Ok : goal.returns-in-Ok
 returns-in-Ok c =
     let full : c.takes_all-full.result ≡ takes_all c.args.files.now c.args.self.now.view.files = c.takes_all-full.ensures ∙ ap (λ v. takes_all c.args.files.now v.files) (c.deref.ensures ∙ c.view.ensures.view) in
     subst (λ (l : CoreState). Answers (model.compact c.args.job c.args.files.now) c.args.self.now l (Some (model.started c.args.job c.takes_all-full.result))) (sym c.in-Ok.ensures)
-      (made (model.compact c.args.job c.args.files.now) c.args.self.now _ _ (start_made c.args.self.now (record { job = c.args.job; full = c.takes_all-full.result; ids = c.args.files.now }) c.in_default.ensures full))
+    (made (model.compact c.args.job c.args.files.now) c.args.self.now _ _ (start_made c.args.self.now (record { job = c.args.job; full = c.takes_all-full.result; ids = c.args.files.now }) c.in_default.ensures full))

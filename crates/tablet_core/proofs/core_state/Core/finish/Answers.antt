@@ -1,24 +1,7 @@
-use Rattle.std.proofs.Common.{◌≡◌, ◌++◌, ◌∷◌, ◌+◌, ◌<◌, [], ℕ, List, Bool, true, false, not, eqb, length, cond, map, drop, take, is_some, Option, Some, None, IfOk, IfSome, option_map, refl, sym, ap, subst, ◌∙◌, arith}
-use Rattle.std.specs.Arc.{arc_value}
-use Rattle.std.specs.List.{filter}
-use Rattle.tablet_model.specs.Cell.{Cell}
-use Rattle.tablet_model.specs.Rules.{AreStorable}
-use Rattle.tablet_model.specs.Stands.{AreBelow}
-use Rattle.tablet_model.specs.Steps as model
+use Rattle.std.proofs.Common.{sym, ◌∙◌}
 use Rattle.tablet_model.specs.Steps.{find_job}
-use Rattle.tablet_model.specs.Store.{RunningJob, has_id, input_of, named}
-use Rattle.iter_config.specs.RulesOf.{rules_of}
-use Rattle.iter_stack.specs.Jobs.{compacted}
-use Rattle.iter_stack.specs.PartCells.{part_cells, union_of}
-use Rattle.compactor.specs.Jobs.{job_of}
-use Rattle.tablet_view.specs.Snapshot.{IsMajorOf, IsStanding, Snapshot, replaced}
-use Rattle.tablet_core.specs.Jobs.{flush_of, major_of}
-use Rattle.tablet_core.specs.Said.{said}
-use Rattle.tablet_core.specs.State.{Answers, CoreState, IsStandingCore}
-use Rattle.tablet_core.proofs.FilesAt.{FileAt, file_at}
-use Rattle.tablet_core.proofs.Flushes.{files_below, flush_frozen, job_flushes}
-use Rattle.tablet_core.proofs.Finishes.{Found, finish_made, finish_nothing, finish_stands, finish_unmade, finished_core, input_storable, job_makes, made_in, major_is, none_found, parts_at, parts_sum, some_found}
-use Rattle.tablet_core.proofs.Moves.{made, unmade}
+use Rattle.tablet_core.specs.Jobs.{major_of}
+use Rattle.tablet_core.proofs.Finishes.{finish_nothing, finish_unmade, job_makes, none_found}
 use Rattle.tablet_core.proofs.core_state.Core.finish.Goals as goal
 
 pub install_finished-requires-clause-made : goal.install_finished-requires-clause-made

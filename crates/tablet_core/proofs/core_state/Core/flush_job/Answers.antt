@@ -1,4 +1,4 @@
-use Rattle.std.proofs.Common.{[], ◌++◌, ◌∷◌, ◌≡◌, ap, subst, sym, Some, ◌∙◌}
+use Rattle.std.proofs.Common.{[], ◌++◌, ◌∷◌, ◌≡◌, ap, subst, ◌∙◌}
 use Rattle.iter_stack.specs.PartCells.{part_cells, union_of}
 use Rattle.std.specs.Arc.{arc_value}
 use Rattle.tablet_view.specs.Snapshot.{IsStanding}

@@ -27,5 +27,5 @@ returns-in-Ok c =
     let same : record { view = arc_value c.in-Ok.view; next = c.self.inside.next; jobs = c.self.inside.jobs } ≡ record c.args.self.now { view = frozen c.args.self.now.view } = (λ i. record { view = c.in-Ok.ensures i; next = (c.self.view_is i).next; jobs = (c.self.view_is i).jobs }) in
     let count : length c.args.self.now.view.memory ≡ c.memory_count-count.result = ap (λ v. length v.memory) (sym (c.deref.ensures ∙ c.view.ensures.view)) ∙ sym c.memory_count-count.ensures in
     subst (λ (l : CoreState). Answers model.freeze c.args.self.now l (Some (model.froze c.memory_count-count.result))) (sym same)
-      (subst (λ n. Answers model.freeze c.args.self.now (record c.args.self.now { view = frozen c.args.self.now.view }) (Some (model.froze n))) count
-        (made model.freeze c.args.self.now _ _ (freeze_made c.args.self.now c.in_default.ensures)))
+    (subst (λ n. Answers model.freeze c.args.self.now (record c.args.self.now { view = frozen c.args.self.now.view }) (Some (model.froze n))) count
+    (made model.freeze c.args.self.now _ _ (freeze_made c.args.self.now c.in_default.ensures)))

@@ -1,4 +1,4 @@
-use Rattle.std.proofs.Common.{◌≡◌, ◌≢◌, ap, false, is_some, length, refl, sym, true, ◌∙◌}
+use Rattle.std.proofs.Common.{◌≡◌, ap, false, is_some, length, refl, sym, true, ◌∙◌}
 use Rattle.tablet_model.specs.Steps.{is_empty}
 use Rattle.tablet_core.proofs.Freezes.{freeze_reason, is_frozen}
 use Rattle.tablet_core.proofs.Starts.{no_length, some_length}

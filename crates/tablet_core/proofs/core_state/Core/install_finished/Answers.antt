@@ -1,24 +1,13 @@
-use Rattle.std.proofs.Common.{◌≡◌, ◌++◌, ◌∷◌, ◌+◌, ◌<◌, [], ℕ, List, Bool, true, false, not, eqb, length, cond, map, drop, take, is_some, Option, Some, None, IfOk, IfSome, option_map, refl, sym, ap, subst, ◌∙◌, arith}
+use Rattle.std.proofs.Common.{◌≡◌, ◌+◌, not, eqb, length, Some, IfSome, option_map, sym, ap, subst, ◌∙◌}
 use Rattle.std.specs.Arc.{arc_value}
 use Rattle.std.specs.List.{filter}
-use Rattle.tablet_model.specs.Cell.{Cell}
-use Rattle.tablet_model.specs.Rules.{AreStorable}
-use Rattle.tablet_model.specs.Stands.{AreBelow}
 use Rattle.tablet_model.specs.Steps as model
 use Rattle.tablet_model.specs.Steps.{find_job}
-use Rattle.tablet_model.specs.Store.{RunningJob, has_id, input_of, named}
-use Rattle.iter_config.specs.RulesOf.{rules_of}
 use Rattle.iter_stack.specs.Jobs.{compacted}
-use Rattle.iter_stack.specs.PartCells.{part_cells, union_of}
-use Rattle.compactor.specs.Jobs.{job_of}
-use Rattle.tablet_view.specs.Snapshot.{IsMajorOf, IsStanding, Snapshot, replaced}
-use Rattle.tablet_core.specs.Jobs.{flush_of, major_of}
-use Rattle.tablet_core.specs.Said.{said}
+use Rattle.tablet_view.specs.Snapshot.{replaced}
 use Rattle.tablet_core.specs.State.{Answers, CoreState, IsStandingCore}
-use Rattle.tablet_core.proofs.FilesAt.{FileAt, file_at}
-use Rattle.tablet_core.proofs.Flushes.{files_below, flush_frozen, job_flushes}
-use Rattle.tablet_core.proofs.Finishes.{Found, finish_made, finish_nothing, finish_stands, finish_unmade, finished_core, input_storable, job_makes, made_in, major_is, none_found, parts_at, parts_sum, some_found}
-use Rattle.tablet_core.proofs.Moves.{made, unmade}
+use Rattle.tablet_core.proofs.Finishes.{Found, finish_made, finish_nothing, finish_stands, finish_unmade, finished_core, made_in, none_found, some_found}
+use Rattle.tablet_core.proofs.Moves.{made}
 use Rattle.tablet_core.proofs.core_state.Core.install_finished.Goals as goal
 
 pub returns-in-Err : goal.returns-in-Err
@@ -51,5 +40,5 @@ returns-in-Ok-Some c =
     }) in
     let count : c.count.result ≡ length (compacted c.args.done.now) = c.count.ensures ∙ ap length (c.deref.ensures ∙ c.file.ensures) in
     subst (λ (l : CoreState). Answers (model.finish c.args.job) c.args.self.now l (Some (model.finished c.args.job c.self.inside.next c.count.result))) (sym same)
-      (subst (λ a. Answers (model.finish c.args.job) c.args.self.now (finished_core c.args.self.now c.args.job x.from (compacted c.args.done.now)) (Some a)) (λ i. model.finished c.args.job (sym (ap (λ k. k.next) c.self.view_is) i) (sym count i))
-        (made (model.finish c.args.job) c.args.self.now _ _ (finish_made c.args.self.now c.args.job x.from (compacted c.args.done.now) x.found cells)))
+    (subst (λ a. Answers (model.finish c.args.job) c.args.self.now (finished_core c.args.self.now c.args.job x.from (compacted c.args.done.now)) (Some a)) (λ i. model.finished c.args.job (sym (ap (λ k. k.next) c.self.view_is) i) (sym count i))
+    (made (model.finish c.args.job) c.args.self.now _ _ (finish_made c.args.self.now c.args.job x.from (compacted c.args.done.now) x.found cells)))

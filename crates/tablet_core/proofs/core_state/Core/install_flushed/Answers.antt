@@ -1,8 +1,7 @@
-use Rattle.std.proofs.Common.{IsSome, Some, ap, length, subst, sym, ◌+◌, ◌≡◌, ◌∙◌}
+use Rattle.std.proofs.Common.{Some, ap, length, subst, sym, ◌+◌, ◌≡◌, ◌∙◌}
 use Rattle.std.specs.Arc.{arc_value}
 use Rattle.tablet_model.specs.Steps as model
 use Rattle.iter_stack.specs.Jobs.{compacted}
-use Rattle.tablet_view.specs.Snapshot.{flushed}
 use Rattle.tablet_core.specs.Said.{said}
 use Rattle.tablet_core.specs.State.{Answers, CoreState, IsStandingCore}
 use Rattle.tablet_core.proofs.Flushes.{flush_frozen, flush_made, flush_stands, flushed_core, made_of_frozen}
@@ -33,5 +32,5 @@ returns-in-Ok c =
     let same : record { view = arc_value c.in-Ok.view; next = c.self.inside.next + 1; jobs = c.self.inside.jobs } ≡ flushed_core c.args.self.now (compacted c.args.done.now) = (λ i. record { view = c.in-Ok.ensures i; next = (c.self.view_is i).next + 1; jobs = (c.self.view_is i).jobs }) in
     let count : c.count.result ≡ length (compacted c.args.done.now) = c.count.ensures ∙ ap length (c.deref.ensures ∙ c.file.ensures) in
     subst (λ (l : CoreState). Answers model.flush c.args.self.now l (Some (model.flushed c.self.inside.next c.count.result))) (sym same)
-      (subst (λ a. Answers model.flush c.args.self.now (flushed_core c.args.self.now (compacted c.args.done.now)) (Some a)) (λ i. model.flushed (sym (ap (λ k. k.next) c.self.view_is) i) (sym count i))
-        (made model.flush c.args.self.now _ _ (flush_made c.args.self.now (compacted c.args.done.now) c.in_default.ensures (made_of_frozen c.args.self.now (compacted c.args.done.now) c.in_default.ensures c.requires.made))))
+    (subst (λ a. Answers model.flush c.args.self.now (flushed_core c.args.self.now (compacted c.args.done.now)) (Some a)) (λ i. model.flushed (sym (ap (λ k. k.next) c.self.view_is) i) (sym count i))
+    (made model.flush c.args.self.now _ _ (flush_made c.args.self.now (compacted c.args.done.now) c.in_default.ensures (made_of_frozen c.args.self.now (compacted c.args.done.now) c.in_default.ensures c.requires.made))))

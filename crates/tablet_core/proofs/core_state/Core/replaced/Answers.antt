@@ -1,24 +1,14 @@
-use Rattle.std.proofs.Common.{◌≡◌, ◌++◌, ◌∷◌, ◌+◌, ◌<◌, [], ℕ, List, Bool, true, false, not, eqb, length, cond, map, drop, take, is_some, Option, Some, None, IfOk, IfSome, option_map, refl, sym, ap, subst, ◌∙◌, arith}
+use Rattle.std.proofs.Common.{◌≡◌, Some, IfSome, sym, ap, subst, ◌∙◌}
 use Rattle.std.specs.Arc.{arc_value}
-use Rattle.std.specs.List.{filter}
-use Rattle.tablet_model.specs.Cell.{Cell}
-use Rattle.tablet_model.specs.Rules.{AreStorable}
 use Rattle.tablet_model.specs.Stands.{AreBelow}
-use Rattle.tablet_model.specs.Steps as model
 use Rattle.tablet_model.specs.Steps.{find_job}
-use Rattle.tablet_model.specs.Store.{RunningJob, has_id, input_of, named}
-use Rattle.iter_config.specs.RulesOf.{rules_of}
+use Rattle.tablet_model.specs.Store.{RunningJob}
 use Rattle.iter_stack.specs.Jobs.{compacted}
-use Rattle.iter_stack.specs.PartCells.{part_cells, union_of}
 use Rattle.compactor.specs.Jobs.{job_of}
-use Rattle.tablet_view.specs.Snapshot.{IsMajorOf, IsStanding, Snapshot, replaced}
-use Rattle.tablet_core.specs.Jobs.{flush_of, major_of}
-use Rattle.tablet_core.specs.Said.{said}
-use Rattle.tablet_core.specs.State.{Answers, CoreState, IsStandingCore}
-use Rattle.tablet_core.proofs.FilesAt.{FileAt, file_at}
-use Rattle.tablet_core.proofs.Flushes.{files_below, flush_frozen, job_flushes}
-use Rattle.tablet_core.proofs.Finishes.{Found, finish_made, finish_nothing, finish_stands, finish_unmade, finished_core, input_storable, job_makes, made_in, major_is, none_found, parts_at, parts_sum, some_found}
-use Rattle.tablet_core.proofs.Moves.{made, unmade}
+use Rattle.tablet_view.specs.Snapshot.{IsMajorOf}
+use Rattle.tablet_core.specs.State.{IsStandingCore}
+use Rattle.tablet_core.proofs.Flushes.{files_below}
+use Rattle.tablet_core.proofs.Finishes.{made_in, major_is}
 use Rattle.tablet_core.proofs.core_state.Core.replaced.Goals as goal
 
 pub install_major-requires-clause-above : goal.install_major-requires-clause-above
@@ -30,4 +20,4 @@ install_major-requires-clause-made c =
     let found : find_job c.args.job c.args.self.now.jobs ≡ Some t = ap (λ k. find_job c.args.job k.jobs) (sym c.self.view_is) ∙ sym c.in-Some.ensures in
     let cells : compacted c.args.done.now ≡ made_in c.args.self.now t = subst (λ o. IfSome o (λ t. compacted c.args.done.now ≡ made_in c.args.self.now t)) found c.requires.made in
     subst (λ v. IsMajorOf v t.ids (compacted c.args.done.now)) (sym (c.deref.ensures ∙ ap (λ k. k.view) c.self.view_is))
-      (major_is c.args.self.now c.args.job t (compacted c.args.done.now) found cells (subst IsStandingCore c.self.view_is c.self.invariant))
+    (major_is c.args.self.now c.args.job t (compacted c.args.done.now) found cells (subst IsStandingCore c.self.view_is c.self.invariant))

@@ -1,14 +1,7 @@
-use Rattle.std.proofs.Common.{◌≡◌, ◌++◌, ◌∷◌, [], ℕ, List, Bool, true, false, length, cond, is_ok, is_some, Option, Some, None, refl, sym, ap, subst, ◌∙◌}
-use Rattle.std.specs.Arc.{arc_value}
-use Rattle.tablet_model.specs.Stands.{AreRising}
+use Rattle.std.proofs.Common.{true, false, length, is_some, Some, None, refl, sym, ap, ◌∙◌}
 use Rattle.tablet_model.specs.Steps as model
 use Rattle.tablet_model.specs.Steps.{StepAnswer, find_job, first_missing, first_taken, ids_of, is_empty, takes_all}
-use Rattle.tablet_model.specs.Store.{RunningJob}
-use Rattle.tablet_view.specs.Snapshot.{store_of}
-use Rattle.tablet_core.specs.Said.{said}
-use Rattle.tablet_core.specs.State.{Answers, CoreState, IsStandingCore}
-use Rattle.tablet_core.proofs.Moves.{made, unmade}
-use Rattle.tablet_core.proofs.Starts.{all_answers, all_reason, all_there, ids_empty, mapped_some, no_length, some_length, start_keeps, start_made, start_reason}
+use Rattle.tablet_core.proofs.Starts.{all_reason, all_there, ids_empty, mapped_some, no_length, some_length, start_reason}
 use Rattle.tablet_core.proofs.core_state.Core.start_all_refusal.Goals as goal
 
 pub returns-then-is_some : goal.returns-then-is_some
