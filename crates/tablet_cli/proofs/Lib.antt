@@ -1,3 +1,4 @@
+mod Examples
 mod Numbered
 mod Histories
 mod Packs

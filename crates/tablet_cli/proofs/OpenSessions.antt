@@ -102,7 +102,7 @@ module _ (now : Snapshot) (s : OpenSession) (p : IsPinned now s) (count : ℕ) (
     where
       front : pieces_text pieces ≡ found_text (length s.session.view.log) (next_entries now.config now.log count (open_scan s))
       front = ap pieces_text whole.pieces ∙ pieces_are (length s.session.view.log) (taken s.session.mode count (after s.session.place (answer_over s.session s.session.view.log)))
-        ∙ ap (found_text (length s.session.view.log)) next_is
+          ∙ ap (found_text (length s.session.view.log)) next_is
 
       back : ended ≡ end_of (length s.session.view.log) (session_rest now.config now.log (session_behind now.config now.log count (open_scan s)))
       back = whole.ended ∙ ap (end_of (length s.session.view.log)) ((λ i. after (place_moved i) (answers_are now s p i)))

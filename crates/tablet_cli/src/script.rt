@@ -43,12 +43,14 @@ fn answer_line(
         Ok(Line::Nothing) => Ok(()),
         Ok(Line::Mutate(mutation)) => tablet.step(alloc, &Event::Apply(mutation), text),
         Ok(Line::Scan { range, families }) => tablet.scan(alloc, &range, &families, text),
-        Ok(Line::Open {
-            session,
-            range,
-            families,
-            isolated,
-        }) => tablet.open_session(alloc, session, &range, &families, isolated, text),
+        Ok(
+            Line::Open {
+                session,
+                range,
+                families,
+                isolated,
+            },
+        ) => tablet.open_session(alloc, session, &range, &families, isolated, text),
         Ok(Line::Fetch { session, count }) => tablet.fetch(alloc, session, count, text),
         Ok(Line::Renew(session)) => tablet.renew(alloc, session, text),
         Ok(Line::Drop(session)) => tablet.drop_stack(alloc, session, text),

@@ -55,11 +55,11 @@ fn session_on(
     isolated: bool,
 ) -> Result<Session, NoMemory>
     ensures { IfOk result (λ session. session ≡ record {
-        view = core.now.view;
-        range = range.now;
-        families = families.now;
-        mode = mode_of isolated;
-        place = Start;
+      view = core.now.view;
+      range = range.now;
+      families = families.now;
+      mode = mode_of isolated;
+      place = Start;
     }) }
 {
     let view = present_view(core)?;
@@ -174,12 +174,7 @@ impl Tablet {
     }
 
     /// Moves a session to the present view.
-    pub fn renew(
-        &mut self,
-        alloc: Global,
-        number: u32,
-        text: &mut ByteText,
-    ) -> Result<(), NoMemory>
+    pub fn renew(&mut self, alloc: Global, number: u32, text: &mut ByteText) -> Result<(), NoMemory>
         ensures text { OnOk result (text.new ≡ text.old ++ line_answer (replayed_by self.old) (Some (line.Renew number))) }
         ensures state { OnOk result (replayed_by self.new ≡ after_line (replayed_by self.old) (Some (line.Renew number))) }
         ensures version { OnOk result (self.new.core.view.version ≡ self.old.core.view.version) }
@@ -215,12 +210,7 @@ impl Tablet {
     }
 
     /// Ends a session.
-    pub fn close(
-        &mut self,
-        alloc: Global,
-        number: u32,
-        text: &mut ByteText,
-    ) -> Result<(), NoMemory>
+    pub fn close(&mut self, alloc: Global, number: u32, text: &mut ByteText) -> Result<(), NoMemory>
         ensures text { OnOk result (text.new ≡ text.old ++ line_answer (replayed_by self.old) (Some (line.Close number))) }
         ensures state { OnOk result (replayed_by self.new ≡ after_line (replayed_by self.old) (Some (line.Close number))) }
         ensures version { OnOk result (self.new.core.view.version ≡ self.old.core.view.version) }

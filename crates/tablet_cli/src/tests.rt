@@ -188,7 +188,8 @@ fn configurations_are_refused(rt: HostRuntime) -> Result<(), Fail> {
 #[test]
 fn flushes_are_answered(rt: HostRuntime) -> Result<(), Fail> {
     let newest = "m r1 +a:x:=1\nm r1 +a:x:=2\nfreeze\nstatus\nflushed\nstatus\nscan\n";
-    let frozen = "m 1\nm 2\nfreeze 2\nlog 2\nmemory 0\nfrozen 2\nflushed f1 1\nlog 2\nmemory 0\nfrozen none\nfile f1 1\nat 2\nr1 a:x: @2 =2\nend 2\n";
+    let frozen =
+        "m 1\nm 2\nfreeze 2\nlog 2\nmemory 0\nfrozen 2\nflushed f1 1\nlog 2\nmemory 0\nfrozen none\nfile f1 1\nat 2\nr1 a:x: @2 =2\nend 2\n";
     expect_lines(&rt, &[VERSIONS], newest, frozen)?;
     let hidden = "m r1 +a:x:=1\nfreeze\nflushed\nm r1 -a:x:\nfreeze\nflushed\nscan\n";
     let flushed = "m 1\nfreeze 1\nflushed f1 1\nm 2\nfreeze 1\nflushed f2 1\nend 2\n";

@@ -44,8 +44,8 @@ returns-in_ok-fetched-in-Some-clause-state c = always c.append_fetched.result
     (subst (λ t. replayed_by (record { core = c.self.inside.core; sessions = c.fetch_at.new.self }) ≡ after_line (replayed_by t) (Some (line.Fetch c.args.number c.args.count))) c.self.view_is
     (ap (λ ss. replayed_by (record { core = c.self.inside.core; sessions = ss })) (given c).now
     ∙ some_change c.self.inside.core c.self.inside.sessions c.args.number c.in-Some.i (sym c.place_of.ensures.place ∙ c.in-Some.is) (given c).before (given c).at
-        (session_behind c.self.inside.core.view.config c.self.inside.core.view.log c.args.count) (record (given c).before { session = (given c).behind })
-        (moved_is c.self.inside.core.view (given c).before (pinned c) c.args.count (given c).behind c.in_ok-fetched-in-Some.fetched.pieces c.in_ok-fetched-in-Some.fetched.ended (given c).fetch (given c).same (given c).view)))
+    (session_behind c.self.inside.core.view.config c.self.inside.core.view.log c.args.count) (record (given c).before { session = (given c).behind })
+    (moved_is c.self.inside.core.view (given c).before (pinned c) c.args.count (given c).behind c.in_ok-fetched-in-Some.fetched.pieces c.in_ok-fetched-in-Some.fetched.ended (given c).fetch (given c).same (given c).view)))
 
 pub returns-in-None-clause-text : goal.returns-in-None-clause-text
 unfolding line_answer

@@ -41,4 +41,4 @@ returns-in_ok-push-in-None-clause-state c =
     (subst (λ t. replayed_by (record { core = k; sessions = c.push.new.self }) ≡ after_line (replayed_by t) (Some (line.Open c.args.number c.args.range.now c.args.families.now c.args.isolated))) c.self.view_is
     (ap (λ ss. replayed_by (record { core = k; sessions = ss })) c.in_ok-push-in-None.ensures
     ∙ none_pushed k c.self.inside.sessions c.args.number (sym c.place_of.ensures.place ∙ c.in-None.is) c.args.range.now c.args.families.now c.args.isolated opened
-        (ap (λ u. open_scan (record { number = c.args.number; session = u })) c.in_ok-session-in-None.ensures)))
+    (ap (λ u. open_scan (record { number = c.args.number; session = u })) c.in_ok-session-in-None.ensures)))

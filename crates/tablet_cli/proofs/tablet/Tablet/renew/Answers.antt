@@ -40,7 +40,7 @@ returns-in_ok-view-in-Some-clause-state c =
     (subst (λ t. replayed_by (record { core = k; sessions = c.renew_at.new.self }) ≡ after_line (replayed_by t) (Some (line.Renew c.args.number))) c.self.view_is
     (ap (λ ss. replayed_by (record { core = k; sessions = ss })) g.now
     ∙ some_change k c.self.inside.sessions c.args.number c.in-Some.i (sym c.place_of.ensures.place ∙ c.in-Some.is) g.before g.at (change (length k.view.log)) renewed
-        (ap (λ u. open_scan (record g.before { session = record g.before.session { view = u } })) (same_view c))))
+    (ap (λ u. open_scan (record g.before { session = record g.before.session { view = u } })) (same_view c))))
 
 pub returns-in-None-clause-text : goal.returns-in-None-clause-text
 unfolding line_answer text

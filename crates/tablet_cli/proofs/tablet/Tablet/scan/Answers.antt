@@ -16,7 +16,7 @@ returns c =
     let k = c.self.inside.core in
     let n : c.n.result ≡ length k.view.log = c.n.ensures ∙ ap number_of c.in_ok-session.ensures in
     let found : stack_rest source_rest c.in_ok-rest.rest ≡ scanned k.view.config c.args.range.now c.args.families.now k.view.log =
-        c.in_ok-rest.ensures.rest ∙ ap left_of c.in_ok-session.ensures ∙ all_left (record { view = k.view; range = c.args.range.now; families = c.args.families.now; mode = mode_of false; place = Start }) refl in
+    c.in_ok-rest.ensures.rest ∙ ap left_of c.in_ok-session.ensures ∙ all_left (record { view = k.view; range = c.args.range.now; families = c.args.families.now; mode = mode_of false; place = Start }) refl in
     subst (λ t. OnOk c.append_found.result (c.append_found.new.text ≡ c.args.text.now ++ scan_text (length (replayed_by t).log)
-        (scanned (replayed_by t).config c.args.range.now c.args.families.now (replayed_by t).log))) c.self.view_is
+    (scanned (replayed_by t).config c.args.range.now c.args.families.now (replayed_by t).log))) c.self.view_is
     (subst (λ l. OnOk c.append_found.result (c.append_found.new.text ≡ c.args.text.now ++ l)) (λ i. scan_text (n i) (found i)) c.append_found.ensures)
