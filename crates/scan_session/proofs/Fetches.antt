@@ -1,5 +1,5 @@
 -- What a fetch gives, and the walk that it goes on with.
-use Rattle.std.proofs.Common.{◌≡◌, ℕ, ◌≤◌, List, [], ◌∷◌, ◌++◌, length, take, Option, refl, sym, ap, ◌∙◌, subst, le_refl}
+use Rattle.std.proofs.Common.{◌≡◌, ℕ, ◌≤◌, List, ◌++◌, length, Option, sym, ap, ◌∙◌, subst, le_refl}
 use Rattle.std.proofs.Math.Seq.{take-length}
 use Rattle.tablet_model.specs.Cell.{Cell}
 use Rattle.tablet_model.specs.Order.{above}

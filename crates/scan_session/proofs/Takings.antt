@@ -1,5 +1,5 @@
 -- What is taken of a list: a piece of it, of enough entries and no more.
-use Rattle.std.proofs.Common.{◌≡◌, ℕ, suc, ◌-◌, ◌+◌, ◌<◌, ◌≤◌, Bool, true, false, cond, not, ◌&&◌, List, [], ◌∷◌, ◌++◌, length, eqb, refl, sym, ap, ◌∙◌, arith}
+use Rattle.std.proofs.Common.{◌≡◌, ℕ, suc, ◌-◌, ◌<◌, ◌≤◌, Bool, true, false, cond, not, ◌&&◌, List, [], ◌∷◌, ◌++◌, length, eqb, refl, ap, arith}
 use Rattle.tablet_model.specs.Cell.{Cell}
 use Rattle.scan_session.specs.Takes.{Mode, together, taken_behind, taken, last_of}
 use Rattle.scan_session.specs.Walks.{EndsWell, IsPieceOf}

@@ -1,14 +1,10 @@
 -- Walks, and the fetches that make them.
-use Rattle.std.proofs.Common.{◌≡◌, ℕ, ◌-◌, ◌≤◌, List, [], ◌∷◌, ◌++◌, refl, sym, ap, ◌∙◌, subst, append_assoc, append-nil}
-use Rattle.std.specs.List.{filter}
+use Rattle.std.proofs.Common.{◌≡◌, ℕ, ◌-◌, List, [], ◌∷◌, ◌++◌, refl, sym, ap, ◌∙◌, subst, append_assoc, append-nil}
 use Rattle.tablet_model.specs.Cell.{Cell}
-use Rattle.tablet_model.specs.Order.{above}
-use Rattle.tablet_model.specs.Places.{Place, Start, after}
-use Rattle.tablet_model.specs.Sorted.{Ascends}
-use Rattle.scan_session.specs.Takes.{Mode, moved, taken, taken_behind}
+use Rattle.tablet_model.specs.Places.{Start, after}
+use Rattle.scan_session.specs.Takes.{moved, taken, taken_behind}
 use Rattle.scan_session.specs.WalkLaws.{NothingIsSkipped, WalksAreWhole, WalksJoin, FetchesWalk, RestIsLeft}
-use Rattle.scan_session.specs.Walks.{IsPieceOf, Walks, IsEnd, pieces_of, fetched, joined, AreAt}
-use Rattle.scan_session.specs.declared.piece.Piece.{Piece}
+use Rattle.scan_session.specs.Walks.{IsPieceOf, Walks, pieces_of, fetched, joined}
 use Rattle.scan_session.proofs.Beyond.{behind_piece}
 use Rattle.scan_session.proofs.Takings.{taken_piece}
 

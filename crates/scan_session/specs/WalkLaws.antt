@@ -1,5 +1,5 @@
 -- The laws of walks, as statements: this project's own theorems.
-use Rattle.std.specs.Prelude.{◌≡◌, ℕ, ◌≤◌, ◌<◌, List, [], ◌∷◌, ◌++◌, length}
+use Rattle.std.specs.Prelude.{◌≡◌, ℕ, ◌≤◌, ◌<◌, List, ◌++◌, length}
 use Rattle.tablet_model.specs.Cell.{Cell}
 use Rattle.tablet_model.specs.Order.{above}
 use Rattle.tablet_model.specs.Places.{Place, Start, after}
