@@ -1,4 +1,4 @@
-use Rattle.std.proofs.Common.{◌≡◌, ◌+◌, ◌≤◌, ◌++◌, length, sym, ap, ◌∙◌, subst, rules, arith}
+use Rattle.std.proofs.Common.{◌≡◌, ◌++◌, length, sym, ap, ◌∙◌, subst, rules, arith}
 use Rattle.script_text.specs.Lines.{lines_of}
 use Rattle.tablet_cli.specs.Replay.{replayed_none, script_answers}
 use Rattle.tablet_cli.specs.TabletParts.{replayed_by}

@@ -3,8 +3,8 @@ use Rattle.script_text.specs.SessionAnswers.{closed_line}
 use Rattle.script_text.specs.declared.line.Line.TheVariants as line
 use Rattle.tablet_cli.specs.Replay.{after_line, line_answer}
 use Rattle.tablet_cli.specs.Sessions.{OpenScan}
-use Rattle.tablet_cli.specs.TabletParts.{IsPinned, replayed_by}
-use Rattle.tablet_cli.proofs.OpenSessions.{all_removed, always, session_there}
+use Rattle.tablet_cli.specs.TabletParts.{replayed_by}
+use Rattle.tablet_cli.proofs.OpenSessions.{always, session_there}
 use Rattle.tablet_cli.proofs.Replaying.{none_closed, none_text, some_closed, some_text}
 use Rattle.tablet_cli.proofs.tablet.Tablet.close.Goals as goal
 

@@ -1,6 +1,5 @@
 use Rattle.std.proofs.Common.{◌≡◌, ◌++◌, Some, OnOk, sym, ap, ◌∙◌, subst, append_assoc}
 use Rattle.tablet_model.proofs.Ingests.{all_at}
-use Rattle.scan_session.specs.declared.piece.Fetched.{Fetched}
 use Rattle.script_text.specs.SessionAnswers.{rest_line}
 use Rattle.script_text.specs.declared.line.Line.TheVariants as line
 use Rattle.tablet_cli.specs.Replay.{after_line, line_answer}

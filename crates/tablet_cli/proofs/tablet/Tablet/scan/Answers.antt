@@ -1,5 +1,4 @@
-use Rattle.std.proofs.Common.{◌≡◌, ◌++◌, false, List, ℕ, OnOk, length, refl, ap, ◌∙◌, subst}
-use Rattle.tablet_model.specs.Cell.{Cell}
+use Rattle.std.proofs.Common.{◌≡◌, ◌++◌, false, OnOk, length, refl, ap, ◌∙◌, subst}
 use Rattle.tablet_model.specs.Places.{Start}
 use Rattle.iter_stack.specs.Stacks.{stack_rest}
 use Rattle.scan_session.specs.Sessions.{left_of, number_of}
