@@ -1,28 +1,12 @@
 -- What a look says of which snapshots extend which.
-use Rattle.std.proofs.Common.{◌≡◌, ℕ, ◌<◌, ◌≤◌, List, [], ◌∷◌, ◌++◌, length, refl, sym, ap, subst, ◌∙◌, arith, append-nil, length-append}
+use Rattle.std.proofs.Common.{◌≡◌, ℕ, ◌<◌, ◌≤◌, refl, sym, subst}
 use Rattle.std.specs.Prelude.{Bool, true, false, Option, Some, None, MatchOption}
 use Rattle.std.specs.Arc.{arc_value}
 use Rattle.std.specs.declared.sync.Arc.{Arc}
-use Rattle.tablet_model.specs.History.{RowChange}
 use Rattle.tablet_view.specs.Extending.{Extends}
 use Rattle.tablet_view.specs.Snapshot.{Snapshot}
 use Rattle.tablet_view.proofs.Orders.{extends_trans}
 use Rattle.scan_session.specs.Looks.{Found, Leads}
-
-no_rest : (a b rest : List RowChange) → a ≡ b ++ rest → (length b < length a → ⊥) → a ≡ b
-no_rest a b [] e h = e ∙ append-nil b
-no_rest a b (x ∷ rest) e h = absurd (h (omega (arith, ap length e, length-append b (x ∷ rest))))
-
--- one that extends another and has no higher version is extended by it
-pub not_newer : (x s : Snapshot) → Extends x s → x.version ≤ s.version → Extends s x
-not_newer x s up low =
-    let same : x.log ≡ s.log = no_rest x.log s.log up.log.rest up.log.whole (λ more. let rises : s.version < x.version = up.rises more in omega arith) in
-    record {
-      config = sym up.config;
-      log = record { rest = []; whole = sym (append-nil x.log ∙ same) };
-      version = low;
-      rises = λ h. absurd (omega (arith, ap length same));
-    }
 
 -- a view that a look answers extends the one that was there
 pub answer_extends : {Z : Type 0} (looks : Bool) (before after : Option Snapshot) (than : ℕ) (answer : Option (Arc Snapshot Z)) (view : Arc Snapshot Z) (pinned : Snapshot)
