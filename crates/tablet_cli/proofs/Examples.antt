@@ -9,7 +9,7 @@ use Rattle.tablet_model.specs.Versions.{is_recent, versions}
 use Rattle.tablet_model.specs.History.{history_entries}
 use Rattle.tablet_model.specs.Ingest.{first_too_long, first_twice, first_where, ingest, is_mistimed, is_read, is_refused_delete, is_twin, is_unread, out_of_bounds, too_long}
 use Rattle.tablet_model.specs.Stages.{stage, stages}
-use Rattle.tablet_model.specs.Steps.{answered, logged, refuse, step, step_answer, stepped}
+use Rattle.tablet_model.specs.Steps.{answered, is_empty, logged, refuse, step, step_answer, stepped}
 use Rattle.tablet_model.specs.Store.{empty_store}
 use Rattle.tablet_model.specs.Answers.{answer, scan_of}
 use Rattle.cell_key.specs.Listed.{column_listed}
@@ -38,7 +38,7 @@ a_delete = refl
 
 -- a refused line changes nothing
 refused_lines : script_answers (replayed_none []) (lines_of (codes "hello\n\nm r1 +a:x\nm r1\n# note\nfreeze\nscan")) ≡ codes "no syntax\nno syntax\nno bound updates\nno empty\nend 0\n"
-unfolding digits put_of update_of mutation_of scan_line reading_of session_line_of store_line_of entry_line found_text line_answer after_line answered stepped logged refuse step step_answer empty_store rules_of stages ingest out_of_bounds first_too_long too_long answer scan_of history_entries sorted live
+unfolding digits put_of update_of mutation_of scan_line reading_of session_line_of store_line_of entry_line found_text line_answer after_line answered stepped logged refuse is_empty step step_answer empty_store rules_of stages ingest out_of_bounds first_too_long too_long answer scan_of history_entries sorted live
 refused_lines = refl
 
 a_duplicate : script_answers (replayed_none []) (lines_of (codes "m r1 +a:x:=1 +a:x:=2\n")) ≡ codes "no duplicate\n"

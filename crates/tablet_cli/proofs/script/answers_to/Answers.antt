@@ -17,4 +17,4 @@ loop-line-init c =
 
 pub answer_line-requires : goal.answer_line-requires
 answer_line-requires c =
-    omega (arith, c.loop-line.invariant.few, lines_few c.args.script.now, c.type_inv.script)
+    omega (arith, c.loop-line.invariant.few, lines_few c.args.script.now)
