@@ -12,6 +12,7 @@ use Rattle.tablet_model.specs.Store.{File, RunningJob}
 use Rattle.compactor.specs.Jobs.{is_behind, job_of}
 use Rattle.compactor.specs.declared.job_state.JobState.{JobState}
 use Rattle.scan_session.specs.Sessions.{SessionState, left_of}
+use Rattle.iter_stack.proofs.Written.{within_all}
 use Rattle.script_text.specs.Answers.{refusal_line}
 use Rattle.script_text.specs.SessionAnswers.{opened_line}
 use Rattle.script_text.specs.declared.line.Line.TheVariants as line
@@ -56,13 +57,9 @@ status_is k s h = λ i. log_line (h.log i) ++ memory_line (h.memory i) ++ frozen
 
 -- ---- scans
 
-filter-true : (list : List Cell) → filter (λ e. true) list ≡ list
-filter-true [] = refl
-filter-true (e ∷ es) = ap (λ l. e ∷ l) (filter-true es)
-
 -- a session at its start has its whole answer left
 pub all_left : (s : SessionState) → s.place ≡ Start → left_of s ≡ scanned s.view.config s.range s.families s.view.log
-all_left s h = ap (λ p. after p (scanned s.view.config s.range s.families s.view.log)) h ∙ filter-true (scanned s.view.config s.range s.families s.view.log)
+all_left s h = ap (λ p. after p (scanned s.view.config s.range s.families s.view.log)) h ∙ within_all (scanned s.view.config s.range s.families s.view.log)
 
 -- ---- sessions by their numbers
 

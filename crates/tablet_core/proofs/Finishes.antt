@@ -1,27 +1,23 @@
 -- A job's file stands in the place of its files.
 use Rattle.std.proofs.Common.{◌≡◌, ℕ, ◌+◌, ◌≤◌, Bool, true, false, cond, not, eqb, List, [], ◌∷◌, ◌++◌, length, map, take, Option, Some, None, IfSome, is_some, option_map, inl, inr, refl, sym, ap, ◌∙◌, arith}
-use Rattle.std.specs.List.{filter, flat_map}
+use Rattle.std.specs.List.{filter}
 use Rattle.std.proofs.lemmas.Bool.{eqb-true}
 use Rattle.std.proofs.lemmas.List.{map-append}
 use Rattle.tablet_model.specs.Cell.{Cell}
 use Rattle.tablet_model.specs.Compactions.{full_compaction, partial_compaction}
-use Rattle.tablet_model.specs.Order.{above}
-use Rattle.tablet_model.specs.Rules.{AreStorable, IsStorable}
-use Rattle.tablet_model.specs.Sorted.{sorted}
 use Rattle.tablet_model.specs.Stands.{AreAllNewer}
 use Rattle.tablet_model.specs.Steps.{StepAnswer, find_job, finish, finished, logged, made_by, no_such_job, refuse, step, step_answer, without_job}
 use Rattle.tablet_model.specs.Store.{File, RunningJob, Store, cells_of, has_id, input_of, named, unnamed}
 use Rattle.tablet_model.specs.Sum.{sum_all}
-use Rattle.tablet_model.proofs.Merges.{all_sorted}
-use Rattle.tablet_model.proofs.Orders.{above_exact}
-use Rattle.stage_laws.proofs.Jobs.{fewer, found_job}
+use Rattle.stage_laws.proofs.Jobs.{found_job}
 use Rattle.stage_laws.proofs.JobsStay.{all_true}
 use Rattle.stage_laws.proofs.Standing.{parts}
 use Rattle.iter_config.specs.RulesOf.{rules_of}
 use Rattle.iter_stack.specs.Jobs.{Compaction, compacted}
 use Rattle.iter_stack.specs.Usages.{usage_cells}
 use Rattle.iter_stack.specs.declared.usage.Usage.TheVariants.{MajcFull, MajcPart}
-use Rattle.tablet_view.specs.Snapshot.{IsMajorOf, IsStanding, OthersAreNewer, Snapshot, replaced, store_of}
+use Rattle.tablet_view.specs.Snapshot.{IsMajorOf, IsStanding, OthersAreNewer, replaced, store_of}
+use Rattle.tablet_view.proofs.Inputs.{files_input}
 use Rattle.tablet_view.proofs.Orders.{extends_replaced}
 use Rattle.tablet_core.specs.Jobs.{major_of}
 use Rattle.tablet_core.specs.State.{Answers, CoreState, IsStandingCore, state_of}
@@ -152,18 +148,8 @@ named_at ids files i id a = ap (named ids) a.back ∙ last (take i files) ∙ ap
         go true h = ap (λ l. x ∷ l) h
         go false h = h
 
-cells_joined : (files : List File) → flat_map (λ l. l) (map (λ f. f.cells) files) ≡ cells_of files
-unfolding cells_of
-cells_joined [] = refl
-cells_joined (f ∷ fs) = ap (λ l. f.cells ++ l) (cells_joined fs)
-
 pub parts_sum : (ids : List ℕ) (files : List File) (lists : List (List Cell)) → lists ≡ map (λ f. f.cells) (named ids files) → sum_all lists ≡ input_of ids files
-unfolding sum_all input_of
-parts_sum ids files lists h = ap (λ l. sorted above (flat_map (λ x. x) l)) h ∙ ap (sorted above) (cells_joined (named ids files))
-
-pub input_storable : (v : Snapshot) (ids : List ℕ) → IsStanding v → AreStorable (rules_of v.config) (input_of ids v.files)
-unfolding input_of store_of
-input_storable v ids h = all_sorted above above_exact (IsStorable (rules_of v.config)) (cells_of (named ids v.files)) (fewer (IsStorable (rules_of v.config)) ids v.files (parts (rules_of v.config) (store_of v 0 []) v.log h.parts).files)
+parts_sum ids files lists h = ap sum_all h ∙ files_input ids files
 
 pub parts_at : (ids : List ℕ) (files : List File) (i id : ℕ) (a : FileAt files i id) (b : Bool) (lists : List (List Cell)) → has_id ids id ≡ b → lists ≡ map (λ f. f.cells) (named ids (take i files)) → lists ++ cond b (a.file.cells ∷ []) [] ≡ map (λ f. f.cells) (named ids (take (i + 1) files))
 parts_at ids files i id a b lists h l =

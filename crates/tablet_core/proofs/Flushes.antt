@@ -1,17 +1,13 @@
 -- The frozen part becomes a file.
-use Rattle.std.proofs.Common.{◌≡◌, ℕ, ◌+◌, ◌<◌, ◌≤◌, Bool, true, false, cond, not, List, [], ◌∷◌, ◌++◌, length, nat_lt, Option, Some, None, IfSome, is_some, option_map, unwrap_or, refl, sym, ap, ◌∙◌, subst, arith, append-nil}
+use Rattle.std.proofs.Common.{◌≡◌, ℕ, ◌+◌, ◌<◌, ◌≤◌, Bool, true, false, cond, not, List, [], ◌∷◌, ◌++◌, length, nat_lt, Option, Some, None, IfSome, is_some, option_map, unwrap_or, refl, sym, ap, ◌∙◌, subst, arith}
 use Rattle.tablet_model.specs.Cell.{Cell}
 use Rattle.tablet_model.specs.Compactions.{minor_compaction}
-use Rattle.tablet_model.specs.Order.{above}
 use Rattle.tablet_model.specs.Rules.{AreStorable}
-use Rattle.tablet_model.specs.Sorted.{Ascends, sorted}
 use Rattle.tablet_model.specs.Stands.{AreBelow}
 use Rattle.tablet_model.specs.Steps.{flush, flushed as wrote, logged, nothing_frozen, refuse, step, step_answer, too_many_files}
 use Rattle.tablet_model.specs.Store.{frozen_of}
 use Rattle.tablet_model.specs.Sum.{sum_all}
 use Rattle.tablet_model.proofs.Ingests.{none_cond}
-use Rattle.tablet_model.proofs.Orders.{above_exact}
-use Rattle.tablet_model.proofs.Sums.{sorted_same}
 use Rattle.stage_laws.proofs.Standing.{parts}
 use Rattle.iter_config.specs.RulesOf.{rules_of}
 use Rattle.iter_config.specs.declared.iter_spec.IterSpec.{IterSpec}
@@ -19,6 +15,7 @@ use Rattle.iter_stack.specs.Jobs.{Compaction, compacted}
 use Rattle.iter_stack.specs.Usages.{usage_cells}
 use Rattle.iter_stack.specs.declared.usage.Usage.TheVariants.{Minc}
 use Rattle.tablet_view.specs.Snapshot.{IsStanding, Snapshot, flushed, store_of}
+use Rattle.tablet_view.proofs.Inputs.{frozen_input, frozen_storable}
 use Rattle.tablet_view.proofs.Orders.{extends_flushed}
 use Rattle.tablet_core.specs.Jobs.{flush_of}
 use Rattle.tablet_core.specs.State.{CoreState, IsStandingCore, state_of}
@@ -82,26 +79,14 @@ unfolding flush_of usage_cells
 flush_makes v z = refl
 
 -- the parts of that job: one cursor over the frozen part
-frozen_up : (v : Snapshot) (z : List Cell) → IsStanding v → Some z ≡ v.frozen → Ascends above z
-unfolding store_of frozen_of
-frozen_up v z h e = subst (λ o. Ascends above (unwrap_or o [])) (sym e) h.parts.frozen_sorted
-
-frozen_storable : (v : Snapshot) (z : List Cell) → IsStanding v → Some z ≡ v.frozen → AreStorable (rules_of v.config) z
-unfolding store_of frozen_of
-frozen_storable v z h e = subst (λ o. AreStorable (rules_of v.config) (unwrap_or o [])) (sym e) (parts (rules_of v.config) (store_of v 0 []) v.log h.parts).frozen
-
-one_sum : (z : List Cell) → Ascends above z → sum_all (z ∷ []) ≡ z
-unfolding sum_all
-one_sum z up = ap (sorted above) (append-nil z) ∙ sorted_same above above_exact z up
-
 pub flush_storable : (v : Snapshot) (config : List IterSpec) (z list : List Cell) → IsStanding v → Some z ≡ v.frozen → config ≡ v.config → list ≡ sum_all (z ∷ []) → AreStorable (rules_of config) list
 flush_storable v config z list h e c l =
-    subst (λ d. AreStorable (rules_of d) list) (sym c) (subst (AreStorable (rules_of v.config)) (sym (l ∙ one_sum z (frozen_up v z h e))) (frozen_storable v z h e))
+    subst (λ d. AreStorable (rules_of d) list) (sym c) (subst (AreStorable (rules_of v.config)) (sym l) (frozen_storable v z e h))
 
 pub flush_is : (v : Snapshot) (config : List IterSpec) (z list : List Cell) (job : Compaction) → IsStanding v → Some z ≡ v.frozen → config ≡ v.config → list ≡ sum_all (z ∷ []) → job ≡ record { config = config; usage = Minc; input = list } → Some job ≡ option_map (flush_of v) v.frozen
 unfolding flush_of
 flush_is v config z list job h e c l j =
-    ap Some (j ∙ (λ i. record { config = c i; usage = Minc; input = (l ∙ one_sum z (frozen_up v z h e)) i })) ∙ ap (option_map (λ x. record { config = v.config; usage = Minc; input = x })) e
+    ap Some (j ∙ (λ i. record { config = c i; usage = Minc; input = (l ∙ frozen_input v z e h ∙ ap (λ o. unwrap_or o []) (sym e)) i })) ∙ ap (option_map (λ x. record { config = v.config; usage = Minc; input = x })) e
 
 pub job_flushes : (v : Snapshot) (done : Compaction) (o : Option (List Cell)) → Some done ≡ option_map (flush_of v) o → IfSome o (λ z. compacted done ≡ minor_compaction (rules_of v.config).minor z)
 job_flushes v done None h = tt

@@ -4,14 +4,15 @@ use Rattle.tablet_model.specs.Rules.{AreStorable}
 use Rattle.iter_config.specs.RulesOf.{rules_of}
 use Rattle.iter_stack.specs.PartCells.{part_cells, union_of}
 use Rattle.compactor.specs.Jobs.{job_of}
+use Rattle.tablet_view.proofs.Inputs.{files_storable}
 use Rattle.tablet_core.specs.Jobs.{major_of}
-use Rattle.tablet_core.proofs.Finishes.{input_storable, parts_sum}
+use Rattle.tablet_core.proofs.Finishes.{parts_sum}
 use Rattle.tablet_core.proofs.finishing.major.Goals as goal
 
 pub new-requires-clause-storable : goal.new-requires-clause-storable
 new-requires-clause-storable c =
     subst (λ d. AreStorable (rules_of d) (union_of c.in_ok-parts.parts.items)) (sym (c.in_ok-config.ensures ∙ c.config.ensures.config))
-    (subst (AreStorable (rules_of c.args.view.now.config)) (sym (parts_sum c.args.running.now.files c.args.view.now.files (map part_cells c.in_ok-parts.parts.items) c.in_ok-parts.ensures)) (input_storable c.args.view.now c.args.running.now.files c.config.ensures.stands))
+    (subst (AreStorable (rules_of c.args.view.now.config)) (sym (parts_sum c.args.running.now.files c.args.view.now.files (map part_cells c.in_ok-parts.parts.items) c.in_ok-parts.ensures)) (files_storable c.args.view.now c.args.running.now.files c.config.ensures.stands))
 
 pub returns : goal.returns
 unfolding major_of
