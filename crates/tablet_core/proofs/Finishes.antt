@@ -11,7 +11,6 @@ use Rattle.tablet_model.specs.Store.{File, RunningJob, Store, cells_of, has_id, 
 use Rattle.tablet_model.specs.Sum.{sum_all}
 use Rattle.stage_laws.proofs.Jobs.{found_job}
 use Rattle.stage_laws.proofs.JobsStay.{all_true}
-use Rattle.stage_laws.proofs.Standing.{parts}
 use Rattle.iter_config.specs.RulesOf.{rules_of}
 use Rattle.iter_stack.specs.Jobs.{Compaction, compacted}
 use Rattle.iter_stack.specs.Usages.{usage_cells}

@@ -8,7 +8,6 @@ use Rattle.tablet_model.specs.Steps.{flush, flushed as wrote, logged, nothing_fr
 use Rattle.tablet_model.specs.Store.{frozen_of}
 use Rattle.tablet_model.specs.Sum.{sum_all}
 use Rattle.tablet_model.proofs.Ingests.{none_cond}
-use Rattle.stage_laws.proofs.Standing.{parts}
 use Rattle.iter_config.specs.RulesOf.{rules_of}
 use Rattle.iter_config.specs.declared.iter_spec.IterSpec.{IterSpec}
 use Rattle.iter_stack.specs.Jobs.{Compaction, compacted}
