@@ -12,6 +12,3 @@ pub use piece::{Fetched, Piece, Pieces};
 pub use session::Session;
 pub use views::{Still, Views};
 pub use walk_laws::{fetches_walk, walks_are_whole, what_is_taken};
-
-#[cfg(test)]
-mod tests;

@@ -6,4 +6,3 @@ pub mod OtherFiles
 pub mod Scans
 pub mod Parts
 pub mod Inputs
-pub mod ExampleFiles

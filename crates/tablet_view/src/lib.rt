@@ -11,6 +11,3 @@ mod view_source;
 pub use apply_error::ApplyError;
 pub use view::View;
 pub use view_source::ViewSource;
-
-#[cfg(test)]
-mod tests;
