@@ -1,12 +1,2 @@
 pub mod Words
-pub mod Bounds
-pub mod Refusals
-pub mod Sessions
-pub mod Steps
-pub mod Replay
-pub mod SessionSteps
-pub mod TabletParts
-pub mod StatusText
-pub mod Packing
-pub mod Showing
 pub mod Outcome

@@ -1,12 +1,12 @@
 -- What each status says of the source and of the sink. All of this is this project's own.
-use Rattle.std.specs.Prelude.{◌≡◌, ℕ, ◌≤◌, ◌<◌, if◌then◌else◌, Option, Some, None, List, [], ◌++◌, length, IfSome, ⊤}
+use Rattle.std.specs.Prelude.{◌≡◌, ℕ, Bool, true, false, ◌≤◌, ◌<◌, Option, Some, None, List, [], ◌++◌, length, IfSome, ⊤}
 use Rattle.tablet_io.specs.Causes.{Rose}
 use Rattle.tablet_io.specs.Streams.{Took, IsFrontTaken}
 use Rattle.tablet_io.specs.declared.status.Status.{Status}
 use Rattle.tablet_io.specs.declared.status.Status.TheVariants.{Done, Usage, BadConfig, ReadFault, WriteFault, NoMemory, TooLong, BadImage}
-use Rattle.tablet_cli.specs.Packing.{pack_text}
-use Rattle.tablet_cli.specs.Replay.{is_refused, replay_text}
-use Rattle.tablet_cli.specs.Showing.{is_no_image, show_text}
+use Rattle.tablet_replay.specs.Packing.{pack_text}
+use Rattle.tablet_replay.specs.Replay.{is_refused, replay_text}
+use Rattle.tablet_replay.specs.Showing.{is_no_image, show_text}
 use Rattle.tablet_cli.specs.declared.command_word.Command.{Command}
 use Rattle.tablet_cli.specs.declared.command_word.Command.TheVariants.{Replay, Pack, Show}
 use Rattle.tablet_cli.specs.Words.{usage_line}
@@ -60,25 +60,28 @@ Answers text end i o NoMemory = IsUntouched o
 Answers text end i o Usage = ⊥
 Answers text end i o status = IfSome i.before (λ bytes. WasRead i bytes × (end bytes ≡ status) × IsWritten o (text bytes))
 
--- how a command ends that reads a configuration
-abbrev pub config_end : List ℕ → Status
-config_end bytes = if is_refused bytes then BadConfig else Done
-
--- how a command ends that reads an image
-abbrev pub image_end : List ℕ → Status
-image_end bytes = if is_no_image bytes then BadImage else Done
-
 -- what a command writes for an input
 abbrev pub command_text : Command → List ℕ → List ℕ
 command_text Replay bytes = replay_text bytes
 command_text Pack bytes = pack_text bytes
 command_text Show bytes = show_text bytes
 
+-- whether a command refuses an input: its configuration, or that it is no image
+abbrev pub refuses : Command → List ℕ → Bool
+refuses Replay bytes = is_refused bytes
+refuses Pack bytes = is_refused bytes
+refuses Show bytes = is_no_image bytes
+
+-- how a command ends that refuses its input, or doesn't
+abbrev pub end_of : Command → Bool → Status
+end_of command false = Done
+end_of Replay true = BadConfig
+end_of Pack true = BadConfig
+end_of Show true = BadImage
+
 -- how it ends, where nothing comes between
 abbrev pub command_end : Command → List ℕ → Status
-command_end Replay bytes = config_end bytes
-command_end Pack bytes = config_end bytes
-command_end Show bytes = image_end bytes
+command_end command bytes = end_of command (refuses command bytes)
 
 -- what a command does
 abbrev pub Performs : Command → Port → Port → Status → Type 0

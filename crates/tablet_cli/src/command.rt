@@ -4,7 +4,7 @@ ghost use Rattle.tablet_cli.specs.Outcome.{IsComplete, IsRunComplete, Performs, 
 ghost use Rattle.tablet_cli.specs.declared.command_word.Command.TheVariants.{Replay, Pack, Show};
 
 use crate::command_word::{Command, command_of};
-use crate::reply::reply_to;
+use crate::reply::{end_of, reply_to};
 use cell_key::NoMemory;
 use std::alloc::Global;
 use std::sync::Wait;
@@ -37,7 +37,7 @@ fn perform<I: Source, O: Sink>(
         Err(NoMemory) => return Status::NoMemory,
     };
     match write_all(output, reply.text.bytes()) {
-        Ok(_) => reply.end,
+        Ok(_) => end_of(command, reply.refused),
         Err(WriteFault) => Status::WriteFault,
     }
 }

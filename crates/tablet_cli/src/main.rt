@@ -3,16 +3,7 @@
 
 mod command;
 mod command_word;
-mod history;
-mod packing;
-mod refusal;
 mod reply;
-mod scan;
-mod script;
-mod sessions;
-mod showing;
-mod steps;
-mod tablet;
 #[cfg(test)]
 mod tests;
 

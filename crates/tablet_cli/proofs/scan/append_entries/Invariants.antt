@@ -1,6 +1,0 @@
-use Rattle.std.proofs.Common.{◌≡◌, ◌++◌, take}
-use Rattle.script_text.specs.Answers.{entry_lines}
-use Rattle.tablet_cli.proofs.scan.append_entries.Given as goal
-
-abbrev pub invariant-loop-entry : goal.invariant-loop-entry
-invariant-loop-entry l = l.text ≡ l.fn.text ++ entry_lines (take l.entry-index l.entry-items)

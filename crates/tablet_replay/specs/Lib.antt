@@ -1,0 +1,10 @@
+pub mod Bounds
+pub mod Refusals
+pub mod Sessions
+pub mod Steps
+pub mod Replay
+pub mod SessionSteps
+pub mod TabletParts
+pub mod StatusText
+pub mod Packing
+pub mod Showing

@@ -1,0 +1,226 @@
+ghost use Rattle.std.specs.Prelude.{◌≡◌, ◌+◌, ◌<◌, ◌≤◌, ◌^◌, ◌++◌, [], IfOk, OnOk};
+ghost use Rattle.std.specs.Arc.{arc_value};
+ghost use Rattle.tablet_model.specs.Places.{Start};
+ghost use Rattle.scan_session.specs.Takes.{mode_of};
+ghost use Rattle.tablet_core.specs.Said.{event_of};
+ghost use Rattle.tablet_core.specs.State.{empty_core};
+ghost use Rattle.tablet_replay.specs.Replay.{after_step, step_answer_text};
+ghost use Rattle.tablet_replay.specs.TabletParts.{replayed_by};
+
+use crate::scan::{append_fetched, append_found};
+use crate::sessions::{OpenSession, Sessions};
+use crate::steps::{append_answer, append_status};
+use cell_key::{ByteText, Families, NoMemory, RangeBuf};
+use iter_config::Config;
+use scan_session::Session;
+use script_text::{
+    Refusal, append_closed, append_dropped, append_opened, append_refusal, append_renewed,
+};
+use std::alloc::Global;
+use std::marker::Model;
+use std::sync::Arc;
+use tablet_core::{Core, Event};
+use tablet_view::View;
+
+/// What a script has made: the store, and the sessions that are open on its views.
+#[derive(Drop)]
+pub struct Tablet {
+    core: Core,
+    sessions: Sessions,
+}
+
+impl Model for Tablet {
+    ghost use Rattle.tablet_replay.specs.TabletParts.{TabletState, ArePinned};
+
+    ghost Value = { TabletState };
+
+    ghost view = { λ t. record { core = t.core; sessions = t.sessions } };
+
+    ghost invariant = { λ t. ArePinned t.core.view t.sessions };
+}
+
+/// The present view, shared.
+fn present_view(core: &Core) -> Result<Arc<View>, NoMemory>
+    ensures { IfOk result (λ view. arc_value view ≡ core.now.view) }
+{
+    Ok(Arc::try_clone(core.view())?)
+}
+
+/// A session at its start, on the present view.
+fn session_on(
+    core: &Core,
+    alloc: Global,
+    range: &RangeBuf,
+    families: &Families,
+    isolated: bool,
+) -> Result<Session, NoMemory>
+    ensures { IfOk result (λ session. session ≡ record {
+      view = core.now.view;
+      range = range.now;
+      families = families.now;
+      mode = mode_of isolated;
+      place = Start;
+    }) }
+{
+    let view = present_view(core)?;
+    Session::open(alloc, &range.range(), families, isolated, view)
+}
+
+impl Tablet {
+    ghost use Rattle.std.specs.Prelude.{length};
+    ghost use Rattle.script_text.specs.declared.line.Line.TheVariants as line;
+    ghost use Rattle.script_text.specs.Answers.{scan_text};
+    ghost use Rattle.std.specs.Prelude.{Some};
+    ghost use Rattle.tablet_replay.specs.Replay.{after_line, line_answer};
+    ghost use Rattle.tablet_replay.specs.Steps.{status_text};
+    ghost use Rattle.tablet_replay.specs.Sessions.{scanned};
+
+    /// Nothing yet, under a configuration.
+    pub fn open(alloc: Global, config: Config) -> Result<Tablet, NoMemory>
+        ensures { IfOk result (λ t. t ≡ record { core = empty_core config; sessions = [] }) }
+    {
+        let config = Arc::new(alloc, config)?;
+        Ok(Tablet {
+            core: Core::open(alloc, config)?,
+            sessions: Sessions::new(alloc),
+        })
+    }
+
+    /// Takes a step of the store, and appends its answer.
+    pub fn step(
+        &mut self,
+        alloc: Global,
+        event: &Event,
+        text: &mut ByteText,
+    ) -> Result<(), NoMemory>
+        requires { self.old.core.view.version < 2 ^ 63 }
+        ensures text { OnOk result (text.new ≡ text.old ++ step_answer_text (replayed_by self.old) (event_of event.now)) }
+        ensures state { OnOk result (replayed_by self.new ≡ after_step (replayed_by self.old) (event_of event.now)) }
+        ensures slow { OnOk result (self.new.core.view.version ≤ self.old.core.view.version + 1) }
+    {
+        let answer = self.core.step(alloc, event);
+        append_answer(alloc, text, answer)
+    }
+
+    /// Appends the status of the store.
+    pub fn status(&self, alloc: Global, text: &mut ByteText) -> Result<(), NoMemory>
+        ensures { OnOk result (text.new ≡ text.old ++ status_text (replayed_by self.now).store) }
+    {
+        let status = self.core.status(alloc)?;
+        append_status(alloc, text, &status)
+    }
+
+    /// Appends what a scan finds: a session that is opened, read whole and closed.
+    pub fn scan(
+        &self,
+        alloc: Global,
+        range: &RangeBuf,
+        families: &Families,
+        text: &mut ByteText,
+    ) -> Result<(), NoMemory>
+        ensures { OnOk result (text.new ≡ text.old ++ scan_text (length (replayed_by self.now).log)
+            (scanned (replayed_by self.now).config range.now families.now (replayed_by self.now).log)) }
+    {
+        let session = session_on(&self.core, alloc, range, families, false)?;
+        let mut rest = session.remaining(alloc)?;
+        append_found(alloc, session.n(), &mut rest, text)
+    }
+
+    /// Opens a session on the present view, unless one of this number is open.
+    pub fn open_session(
+        &mut self,
+        alloc: Global,
+        number: u32,
+        range: &RangeBuf,
+        families: &Families,
+        isolated: bool,
+        text: &mut ByteText,
+    ) -> Result<(), NoMemory>
+        ensures text { OnOk result (text.new ≡ text.old ++ line_answer (replayed_by self.old) (Some (line.Open number range.now families.now isolated))) }
+        ensures state { OnOk result (replayed_by self.new ≡ after_line (replayed_by self.old) (Some (line.Open number range.now families.now isolated))) }
+        ensures version { OnOk result (self.new.core.view.version ≡ self.old.core.view.version) }
+    {
+        match self.sessions.place_of(number) {
+            Some(_) => append_refusal(alloc, text, &Refusal::SessionOpen(number)),
+            None => {
+                let session = session_on(&self.core, alloc, range, families, isolated)?;
+                let n = session.n();
+                self.sessions.push(OpenSession { number, session })?;
+                append_opened(alloc, text, number, n)
+            }
+        }
+    }
+
+    /// Appends the next entries of a session, `count` of them.
+    pub fn fetch(
+        &mut self,
+        alloc: Global,
+        number: u32,
+        count: u32,
+        text: &mut ByteText,
+    ) -> Result<(), NoMemory>
+        requires { 1 ≤ count }
+        ensures text { OnOk result (text.new ≡ text.old ++ line_answer (replayed_by self.old) (Some (line.Fetch number count))) }
+        ensures state { OnOk result (replayed_by self.new ≡ after_line (replayed_by self.old) (Some (line.Fetch number count))) }
+        ensures version { OnOk result (self.new.core.view.version ≡ self.old.core.view.version) }
+    {
+        match self.sessions.place_of(number) {
+            Some(i) => {
+                let fetched = self.sessions.fetch_at(alloc, i, count)?;
+                append_fetched(alloc, text, &fetched)
+            }
+            None => append_refusal(alloc, text, &Refusal::NoSession(number)),
+        }
+    }
+
+    /// Moves a session to the present view.
+    pub fn renew(&mut self, alloc: Global, number: u32, text: &mut ByteText) -> Result<(), NoMemory>
+        ensures text { OnOk result (text.new ≡ text.old ++ line_answer (replayed_by self.old) (Some (line.Renew number))) }
+        ensures state { OnOk result (replayed_by self.new ≡ after_line (replayed_by self.old) (Some (line.Renew number))) }
+        ensures version { OnOk result (self.new.core.view.version ≡ self.old.core.view.version) }
+    {
+        match self.sessions.place_of(number) {
+            Some(i) => {
+                let view = present_view(&self.core)?;
+                let n = view.mutations();
+                self.sessions.renew_at(i, view);
+                append_renewed(alloc, text, number, n)
+            }
+            None => append_refusal(alloc, text, &Refusal::NoSession(number)),
+        }
+    }
+
+    /// Tears the stack of a session down.
+    pub fn drop_stack(
+        &mut self,
+        alloc: Global,
+        number: u32,
+        text: &mut ByteText,
+    ) -> Result<(), NoMemory>
+        ensures text { OnOk result (text.new ≡ text.old ++ line_answer (replayed_by self.old) (Some (line.Drop number))) }
+        ensures same { self.new ≡ self.old }
+    {
+        match self.sessions.place_of(number) {
+            Some(i) => {
+                self.sessions.drop_stack_at(i);
+                append_dropped(alloc, text, number)
+            }
+            None => append_refusal(alloc, text, &Refusal::NoSession(number)),
+        }
+    }
+
+    /// Ends a session.
+    pub fn close(&mut self, alloc: Global, number: u32, text: &mut ByteText) -> Result<(), NoMemory>
+        ensures text { OnOk result (text.new ≡ text.old ++ line_answer (replayed_by self.old) (Some (line.Close number))) }
+        ensures state { OnOk result (replayed_by self.new ≡ after_line (replayed_by self.old) (Some (line.Close number))) }
+        ensures version { OnOk result (self.new.core.view.version ≡ self.old.core.view.version) }
+    {
+        match self.sessions.place_of(number) {
+            Some(i) => {
+                self.sessions.remove_at(i);
+                append_closed(alloc, text, number)
+            }
+            None => append_refusal(alloc, text, &Refusal::NoSession(number)),
+        }
+    }
+}
