@@ -18,8 +18,6 @@ mod no_memory;
 mod order;
 mod range;
 mod range_buf;
-#[cfg(test)]
-mod tests;
 mod unescaping;
 
 pub use column_buf::ColumnBuf;

@@ -12,6 +12,3 @@ pub use arrays::NumberArray;
 pub use laws::{values_are_joined_in_any_order, values_are_short};
 pub use op::{Encoding, Op};
 pub use writing::NumberText;
-
-#[cfg(test)]
-mod tests;

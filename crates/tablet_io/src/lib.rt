@@ -8,8 +8,6 @@ mod ports;
 mod status;
 mod streams;
 mod system;
-#[cfg(test)]
-mod tests;
 
 pub use calls::Calls;
 pub use cell_key::NoMemory;
