@@ -41,9 +41,8 @@ fn fixed_numbers_are_read(rt: HostRuntime) {
     }
 }
 
-/// Whether the texts of a number are these, when one text becomes one after the other.
-fn is_written(number: i64, decimal: &[u8], fixed: &[u8]) -> bool {
-    let mut text = NumberText::new();
+/// Whether a text becomes each of a number's texts.
+fn is_written(text: &mut NumberText, number: i64, decimal: &[u8], fixed: &[u8]) -> bool {
     text.write(Encoding::String, number);
     let in_decimal = text.bytes() == decimal;
     text.write(Encoding::Fixed, number);
@@ -52,10 +51,16 @@ fn is_written(number: i64, decimal: &[u8], fixed: &[u8]) -> bool {
 
 #[test]
 fn numbers_are_written(rt: HostRuntime) {
-    assert!(rt; is_written(0, b"0", b"\0\0\0\0\0\0\0\0"));
-    assert!(rt; is_written(7, b"7", b"\0\0\0\0\0\0\0\x07"));
-    assert!(rt; is_written(-2, b"-2", b"\xff\xff\xff\xff\xff\xff\xff\xfe"));
-    assert!(rt; is_written(i64::MIN, b"-9223372036854775808", b"\x80\0\0\0\0\0\0\0"));
+    let texts: [(i64, &[u8], &[u8]); 4] = [
+        (0, b"0", b"\0\0\0\0\0\0\0\0"),
+        (7, b"7", b"\0\0\0\0\0\0\0\x07"),
+        (-2, b"-2", b"\xff\xff\xff\xff\xff\xff\xff\xfe"),
+        (i64::MIN, b"-9223372036854775808", b"\x80\0\0\0\0\0\0\0"),
+    ];
+    let mut text = NumberText::new();
+    for (number, decimal, fixed) in texts {
+        assert!(rt; is_written(&mut text, number, decimal, fixed), "{number}");
+    }
 }
 
 fn are_joined() -> bool {
