@@ -7,6 +7,3 @@ mod refused;
 
 pub use checks::check;
 pub use refused::Refused;
-
-#[cfg(test)]
-mod tests;

@@ -14,8 +14,6 @@ mod laws;
 mod names;
 mod predicate;
 mod rules;
-#[cfg(test)]
-mod tests;
 
 pub use cell_key::{ColumnName, Columns, Names};
 pub use config::Config;

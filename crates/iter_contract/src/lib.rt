@@ -7,6 +7,3 @@ mod vec_source;
 
 pub use source::SortedSource;
 pub use vec_source::VecSource;
-
-#[cfg(test)]
-mod tests;

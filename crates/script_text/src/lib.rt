@@ -17,8 +17,6 @@ mod session_answers;
 mod session_lines;
 mod store_answers;
 mod store_lines;
-#[cfg(test)]
-mod tests;
 mod updates;
 mod words;
 

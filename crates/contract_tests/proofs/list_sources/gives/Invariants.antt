@@ -1,5 +1,5 @@
 use Rattle.std.proofs.Common.{length}
-use Rattle.iter_contract.proofs.tests.values_in.Given as goal
+use Rattle.contract_tests.proofs.list_sources.gives.Given as goal
 
 abbrev pub invariant-loop-entry : goal.invariant-loop-entry
 invariant-loop-entry g l = g.S.SortedSource.valid l.source

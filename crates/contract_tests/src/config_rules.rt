@@ -1,0 +1,291 @@
+use crate::config_texts::{
+    ALL, FAMILY, FULL, MAJC, MINC, NEWEST, SCAN, SUM, SUM_X, Table, Versions, iterators, versions,
+};
+use cell_key::NoMemory;
+use iter_config::{ConfigError, Rule, read_config};
+use std::alloc::Global;
+
+/// The rule that a text breaks and the number, if it is refused.
+fn refusal(alloc: Global, text: &[u8]) -> Result<Option<(Rule, u32)>, NoMemory> {
+    match read_config(alloc, text) {
+        Ok(_) => Ok(None),
+        Err(ConfigError::Refused { rule, at }) => Ok(Some((rule, at))),
+        Err(ConfigError::NoMemory) => Err(NoMemory),
+    }
+}
+
+#[test]
+fn documents_have_one_array(rt: HostRuntime) -> Result<(), NoMemory> {
+    let documents: [(&[u8], Option<(Rule, u32)>); 12] = [
+        (b"", None),
+        (b"# nothing\n", None),
+        (b"iterator = []", None),
+        (b"[[", Some((Rule::Toml, 0))),
+        (b"# \xff", Some((Rule::Toml, 0))),
+        (b"colour = 9223372036854775808", Some((Rule::Toml, 0))),
+        (b"colour = 1", Some((Rule::Field, 0))),
+        (b"timed = ['a']", Some((Rule::Field, 0))),
+        (b"iterator = 1", Some((Rule::Field, 0))),
+        (b"[iterator]\nname = 'vers'", Some((Rule::Field, 0))),
+        (b"colour = 1\niterator = [2]", Some((Rule::Field, 0))),
+        (b"iterator = [{}, 2]", Some((Rule::Field, 1))),
+    ];
+    for (i, (text, want)) in documents.iter().enumerate() {
+        assert!(rt; refusal(rt.alloc(), text)? == *want, "{i}");
+    }
+    Ok(())
+}
+
+const SEVENTEEN: [Versions<'static>; 17] = [
+    ("i1", "1", "1"),
+    ("i2", "2", "1"),
+    ("i3", "3", "1"),
+    ("i4", "4", "1"),
+    ("i5", "5", "1"),
+    ("i6", "6", "1"),
+    ("i7", "7", "1"),
+    ("i8", "8", "1"),
+    ("i9", "9", "1"),
+    ("i10", "10", "1"),
+    ("i11", "11", "1"),
+    ("i12", "12", "1"),
+    ("i13", "13", "1"),
+    ("i14", "14", "1"),
+    ("i15", "15", "1"),
+    ("i16", "16", "1"),
+    ("i17", "17", "0"),
+];
+
+fn count(alloc: Global, tables: &[Versions<'_>]) -> Result<usize, ConfigError> {
+    let text = versions(alloc, tables)?;
+    let config = read_config(alloc, text.bytes())?;
+    Ok(config.count())
+}
+
+fn versions_refusal(
+    alloc: Global,
+    tables: &[Versions<'_>],
+) -> Result<Option<(Rule, u32)>, NoMemory> {
+    let text = versions(alloc, tables)?;
+    refusal(alloc, text.bytes())
+}
+
+#[test]
+fn documents_have_16_iterators(rt: HostRuntime) -> Result<(), ConfigError> {
+    assert!(rt; count(rt.alloc(), &SEVENTEEN[..16])? == 16);
+    assert!(rt; versions_refusal(rt.alloc(), &SEVENTEEN)? == Some((Rule::Field, 0)));
+    Ok(())
+}
+
+#[test]
+fn names_and_priorities_differ(rt: HostRuntime) -> Result<(), NoMemory> {
+    let lists: [(&[Versions<'_>], Option<(Rule, u32)>); 14] = [
+        (&[("a", "1", "1"), ("b", "2", "1"), ("c", "3", "1")], None),
+        (
+            &[("0123456789abcdefghijKLMNOPQRST_-", "2147483647", "1000")],
+            None,
+        ),
+        (
+            &[("0123456789abcdefghijKLMNOPQRST_-x", "1", "1")],
+            Some((Rule::Field, 1)),
+        ),
+        (&[("", "1", "1")], Some((Rule::Field, 1))),
+        (&[("a b", "1", "1")], Some((Rule::Field, 1))),
+        (&[("a", "0", "1")], Some((Rule::Field, 1))),
+        (&[("a", "2147483648", "1")], Some((Rule::Field, 1))),
+        (&[("a", "1", "0")], Some((Rule::Field, 1))),
+        (&[("a", "1", "1001")], Some((Rule::Field, 1))),
+        (&[("a", "1", "1"), ("a", "1", "1")], Some((Rule::Name, 2))),
+        (
+            &[("a", "1", "1"), ("w", "1", "1")],
+            Some((Rule::Priority, 2)),
+        ),
+        (
+            &[
+                ("a", "1", "1"),
+                ("b", "1", "1"),
+                ("b", "2", "1"),
+                ("a", "3", "1"),
+            ],
+            Some((Rule::Name, 3)),
+        ),
+        (
+            &[
+                ("a", "3", "1"),
+                ("b", "2", "1"),
+                ("c", "3", "1"),
+                ("d", "2", "1"),
+            ],
+            Some((Rule::Priority, 3)),
+        ),
+        (
+            &[("a", "1", "1"), ("a", "1", "0"), ("b", "0", "0")],
+            Some((Rule::Field, 2)),
+        ),
+    ];
+    for (i, (tables, want)) in lists.iter().enumerate() {
+        assert!(rt; versions_refusal(rt.alloc(), tables)? == *want, "{i}");
+    }
+    Ok(())
+}
+
+fn stack_refusal(alloc: Global, tables: &[Table<'_>]) -> Result<Option<(Rule, u32)>, NoMemory> {
+    let text = iterators(alloc, tables)?;
+    refusal(alloc, text.bytes())
+}
+
+fn fields_refusal(
+    alloc: Global,
+    scopes: &str,
+    fields: &str,
+) -> Result<Option<(Rule, u32)>, NoMemory> {
+    stack_refusal(alloc, &[("1", scopes, fields)])
+}
+
+#[test]
+fn kinds_have_their_fields(rt: HostRuntime) -> Result<(), NoMemory> {
+    // Scopes and fields.
+    let accepted = [
+        (SCAN, "kind = 'versions'\nmax = 1"),
+        ("'majc', 'scan', 'minc'", "kind = 'versions'\nmax = 1"),
+        (SCAN, "kind = 'family'\nfamilies = ['', 'a', 'a']"),
+        (SCAN, "kind = 'qualifier_slice'"),
+        (SCAN, "kind = 'times'\nfrom = -9223372036854775808"),
+        (
+            SCAN,
+            "kind = 'sum'\nencoding = 'fixed'\ncolumns = ['', ':', 'n:']",
+        ),
+    ];
+    for (scopes, fields) in accepted {
+        assert!(rt;
+            fields_refusal(rt.alloc(), scopes, fields)?.is_none(),
+            "at {fields}"
+        );
+    }
+    Ok(())
+}
+
+#[test]
+fn kinds_have_no_other_fields(rt: HostRuntime) -> Result<(), NoMemory> {
+    // Scopes and fields.
+    let refused = [
+        ("", "kind = 'versions'\nmax = 1"),
+        ("'scan', 'scan'", "kind = 'versions'\nmax = 1"),
+        ("'scan', 'full'", "kind = 'versions'\nmax = 1"),
+        (SCAN, "kind = 'versions'\nmax = 1.0"),
+        (SCAN, "kind = 'versions'"),
+        (SCAN, "kind = 'versions'\nmax = 1\nnegate = true"),
+        (SCAN, "kind = 'whole_row'"),
+        (SCAN, "kind = 'intersecting'\nterms = ['a']"),
+        (SCAN, "kind = 'family'\nfamilies = []"),
+        (SCAN, "kind = 'family'\nfamilies = ['a b']"),
+        (SCAN, "kind = 'family'\nfamilies = ['a']\nnegate = 1"),
+        (SCAN, "kind = 'family'\nfamilies = ['a']\nmax = 1"),
+        (SCAN, "kind = 'qualifier_slice'\nto = 1"),
+        (SCAN, "kind = 'visibility_set'\nvisibilities = 'a'"),
+        (SCAN, "kind = 'grep'\nneedle = ''"),
+        (SCAN, "kind = 'times'\nfrom = 1.5"),
+        (SCAN, "kind = 'sum'\nencoding = 'fixed'\ncolumns = []"),
+        (SCAN, "kind = 'sum'\nencoding = 'hex'\ncolumns = ['n']"),
+        (SCAN, "kind = 'sum'\ncolumns = ['n']"),
+        (
+            SCAN,
+            "kind = 'min'\nencoding = 'fixed'\ncolumns = ['n']\ndeletes = 'some'",
+        ),
+        (
+            SCAN,
+            "kind = 'max'\nencoding = 'fixed'\ncolumns = ['n']\nnegate = true",
+        ),
+    ];
+    for (scopes, fields) in refused {
+        let found = fields_refusal(rt.alloc(), scopes, fields)?;
+        assert!(rt; found == Some((Rule::Field, 1)), "at {fields}");
+    }
+    Ok(())
+}
+
+const GREP: &str = "kind = 'grep'\nneedle = 'a'";
+
+const TIMES: &str = "kind = 'times'";
+
+const SUM_Y: &str = "kind = 'sum'\nencoding = 'string'\ncolumns = ['n:y', 'x:n']";
+
+#[test]
+fn stacks_are_accepted(rt: HostRuntime) -> Result<(), NoMemory> {
+    let stacks: [&[Table<'_>]; 9] = [
+        &[("1", ALL, FAMILY), ("2", MINC, FAMILY), ("3", SCAN, FAMILY)],
+        &[("1", ALL, NEWEST), ("2", SCAN, NEWEST)],
+        &[("1", ALL, NEWEST), ("2", ALL, FAMILY)],
+        &[("1", ALL, SUM), ("2", SCAN, TIMES), ("3", SCAN, FULL)],
+        &[("1", ALL, TIMES), ("2", ALL, GREP), ("3", ALL, NEWEST)],
+        &[("1", ALL, SUM_X), ("2", ALL, SUM_Y), ("3", ALL, FULL)],
+        &[("1", ALL, FULL), ("2", MINC, NEWEST)],
+        &[("1", MINC, FULL), ("2", MINC, NEWEST)],
+        &[("1", ALL, SUM), ("2", ALL, NEWEST)],
+    ];
+    for (i, tables) in stacks.iter().enumerate() {
+        assert!(rt; stack_refusal(rt.alloc(), tables)?.is_none(), "{i}");
+    }
+    Ok(())
+}
+
+#[test]
+fn stacks_keep_the_rules(rt: HostRuntime) -> Result<(), NoMemory> {
+    let stacks: [(&[Table<'_>], Rule, u32); 16] = [
+        (&[("1", "'majc'", NEWEST)], Rule::NoScan, 1),
+        (
+            &[("2", "'minc'", SUM), ("1", "'majc'", NEWEST)],
+            Rule::NoScan,
+            2,
+        ),
+        (
+            &[("10", SCAN, FAMILY), ("20", ALL, NEWEST)],
+            Rule::NotPrefix,
+            2,
+        ),
+        (
+            &[("20", ALL, NEWEST), ("10", SCAN, FAMILY)],
+            Rule::NotPrefix,
+            1,
+        ),
+        (
+            &[("1", MINC, FAMILY), ("2", MAJC, FAMILY)],
+            Rule::NotPrefix,
+            2,
+        ),
+        (
+            &[
+                ("1", MINC, FAMILY),
+                ("2", SCAN, FAMILY),
+                ("3", MINC, FAMILY),
+            ],
+            Rule::NotPrefix,
+            3,
+        ),
+        (&[("1", ALL, NEWEST), ("2", MAJC, NEWEST)], Rule::Order, 2),
+        (&[("1", ALL, NEWEST), ("2", MINC, SUM)], Rule::Order, 2),
+        (&[("1", ALL, NEWEST), ("2", MINC, GREP)], Rule::Order, 2),
+        (&[("1", ALL, TIMES), ("2", MAJC, SUM)], Rule::Order, 2),
+        (&[("1", ALL, SUM), ("2", MAJC, TIMES)], Rule::Order, 2),
+        (
+            &[("3", ALL, GREP), ("1", ALL, SUM), ("2", ALL, TIMES)],
+            Rule::Order,
+            3,
+        ),
+        (&[("10", SCAN, SUM), ("11", SCAN, SUM_X)], Rule::Overlap, 2),
+        (&[("11", SCAN, SUM), ("10", ALL, SUM_X)], Rule::Overlap, 1),
+        (&[("1", ALL, SUM_X), ("2", ALL, SUM_X)], Rule::Overlap, 2),
+        (
+            &[("1", ALL, FULL), ("2", MAJC, NEWEST)],
+            Rule::FullUnderVersions,
+            2,
+        ),
+    ];
+    for (i, (tables, rule, at)) in stacks.iter().enumerate() {
+        assert!(rt;
+            stack_refusal(rt.alloc(), tables)? == Some((*rule, *at)),
+            "{i}"
+        );
+    }
+    Ok(())
+}
