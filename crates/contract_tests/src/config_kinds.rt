@@ -1,10 +1,11 @@
-use crate::config_texts::{ALL, FAMILY, FULL, MINC, NEWEST, SCAN, SUM, SUM_X, Table, iterators};
+use crate::config_texts::{
+    ALL, FAMILY, FULL, MINC, NEWEST, SCAN, SUM, SUM_X, Table, append_digits, iterators,
+};
 use cell_key::{ByteText, NoMemory, append_escape};
 use iter_config::{
     ColumnName, Columns, Config, ConfigError, Deletes, Encoding, Kind, Names, Op, Predicate,
     Scopes, read_config,
 };
-use number_values::NumberText;
 use std::alloc::Global;
 
 fn config_of(alloc: Global, tables: &[Table<'_>]) -> Result<Config, ConfigError> {
@@ -46,10 +47,8 @@ fn append_columns(text: &mut ByteText, columns: &Columns) -> Result<(), NoMemory
 }
 
 fn append_number(text: &mut ByteText, number: i64) -> Result<(), NoMemory> {
-    let mut digits = NumberText::new();
-    digits.write(Encoding::String, number);
     text.append(b" ")?;
-    text.append(digits.bytes())
+    append_digits(text, number)
 }
 
 fn append_test(text: &mut ByteText, predicate: &Predicate) -> Result<(), NoMemory> {
@@ -257,10 +256,11 @@ fn iterators_run_in_priority_order(rt: HostRuntime) -> Result<(), ConfigError> {
     Ok(())
 }
 
-/// Whether two configurations are the same, asked of both.
-fn same_as(alloc: Global, config: &Config, tables: &[Table<'_>]) -> Result<[bool; 2], ConfigError> {
+/// Whether the configuration of these tables is that of the three iterators, asked of both.
+fn same_as_three(alloc: Global, tables: &[Table<'_>]) -> Result<[bool; 2], ConfigError> {
+    let config = three_iterators(alloc)?;
     let other = config_of(alloc, tables)?;
-    Ok([config.same(&other), other.same(config)])
+    Ok([config.same(&other), other.same(&config)])
 }
 
 #[test]
@@ -289,12 +289,8 @@ fn other_configurations_are_not_the_same(rt: HostRuntime) -> Result<(), ConfigEr
         (&[("10", ALL, FAMILY), ("20", MINC, FAMILY)], false),
         (&[], false),
     ];
-    let config = three_iterators(rt.alloc())?;
     for (i, (tables, same)) in others.iter().enumerate() {
-        assert!(rt;
-            same_as(rt.alloc(), &config, tables)? == [*same, *same],
-            "{i}"
-        );
+        assert!(rt; same_as_three(rt.alloc(), tables)? == [*same, *same], "{i}");
     }
     Ok(())
 }
@@ -307,11 +303,17 @@ fn combiners(alloc: Global) -> Result<Config, ConfigError> {
 }
 
 /// Whether a delete is refused, and whether the value is read.
-fn answers(config: &Config, family: &[u8], qualifier: &[u8], value: &[u8]) -> (bool, bool) {
-    (
+fn answers(
+    alloc: Global,
+    family: &[u8],
+    qualifier: &[u8],
+    value: &[u8],
+) -> Result<(bool, bool), ConfigError> {
+    let config = combiners(alloc)?;
+    Ok((
         config.refuses_delete(family, qualifier),
         config.reads(family, qualifier, value),
-    )
+    ))
 }
 
 #[test]
@@ -328,9 +330,11 @@ fn combiners_ask_of_their_columns(rt: HostRuntime) -> Result<(), ConfigError> {
         (b"m", b"q", b"five", (false, false)),
         (b"", b"", b"", (false, true)),
     ];
-    let config = combiners(rt.alloc())?;
     for (i, (family, qualifier, value, want)) in rows.iter().enumerate() {
-        assert!(rt; answers(&config, family, qualifier, value) == *want, "{i}");
+        assert!(rt;
+            answers(rt.alloc(), family, qualifier, value)? == *want,
+            "{i}"
+        );
     }
     Ok(())
 }

@@ -1,7 +1,8 @@
 use crate::config_texts::{
-    ALL, FAMILY, FULL, MAJC, MINC, NEWEST, SCAN, SUM, SUM_X, Table, Versions, iterators, versions,
+    ALL, FAMILY, FULL, MAJC, MINC, NEWEST, SCAN, SUM, SUM_X, Table, Versions, append_numbered,
+    append_versions, iterators, versions,
 };
-use cell_key::NoMemory;
+use cell_key::{ByteText, NoMemory};
 use iter_config::{ConfigError, Rule, read_config};
 use std::alloc::Global;
 
@@ -36,30 +37,38 @@ fn documents_have_one_array(rt: HostRuntime) -> Result<(), NoMemory> {
     Ok(())
 }
 
-const SEVENTEEN: [Versions<'static>; 17] = [
-    ("i1", "1", "1"),
-    ("i2", "2", "1"),
-    ("i3", "3", "1"),
-    ("i4", "4", "1"),
-    ("i5", "5", "1"),
-    ("i6", "6", "1"),
-    ("i7", "7", "1"),
-    ("i8", "8", "1"),
-    ("i9", "9", "1"),
-    ("i10", "10", "1"),
-    ("i11", "11", "1"),
-    ("i12", "12", "1"),
-    ("i13", "13", "1"),
-    ("i14", "14", "1"),
-    ("i15", "15", "1"),
-    ("i16", "16", "1"),
-    ("i17", "17", "0"),
-];
+/// A text of 16 iterators.
+fn sixteen(alloc: Global) -> Result<ByteText, NoMemory> {
+    let mut text = ByteText::new(alloc);
+    for i in 1..17 {
+        append_numbered(&mut text, i)?;
+    }
+    Ok(text)
+}
 
-fn count(alloc: Global, tables: &[Versions<'_>]) -> Result<usize, ConfigError> {
-    let text = versions(alloc, tables)?;
+/// A text of 17 iterators, of which the last has no versions.
+fn seventeen(alloc: Global) -> Result<ByteText, NoMemory> {
+    let mut text = sixteen(alloc)?;
+    append_versions(&mut text, &("i17", "17", "0"))?;
+    Ok(text)
+}
+
+fn count(alloc: Global) -> Result<usize, ConfigError> {
+    let text = sixteen(alloc)?;
     let config = read_config(alloc, text.bytes())?;
     Ok(config.count())
+}
+
+fn count_refusal(alloc: Global) -> Result<Option<(Rule, u32)>, NoMemory> {
+    let text = seventeen(alloc)?;
+    refusal(alloc, text.bytes())
+}
+
+#[test]
+fn documents_have_16_iterators(rt: HostRuntime) -> Result<(), ConfigError> {
+    assert!(rt; count(rt.alloc())? == 16);
+    assert!(rt; count_refusal(rt.alloc())? == Some((Rule::Field, 0)));
+    Ok(())
 }
 
 fn versions_refusal(
@@ -68,13 +77,6 @@ fn versions_refusal(
 ) -> Result<Option<(Rule, u32)>, NoMemory> {
     let text = versions(alloc, tables)?;
     refusal(alloc, text.bytes())
-}
-
-#[test]
-fn documents_have_16_iterators(rt: HostRuntime) -> Result<(), ConfigError> {
-    assert!(rt; count(rt.alloc(), &SEVENTEEN[..16])? == 16);
-    assert!(rt; versions_refusal(rt.alloc(), &SEVENTEEN)? == Some((Rule::Field, 0)));
-    Ok(())
 }
 
 #[test]

@@ -1,4 +1,5 @@
 use cell_key::{ByteText, NoMemory};
+use number_values::{Encoding, NumberText};
 use std::alloc::Global;
 
 /// Fields of kinds of iterators, and lists of scopes.
@@ -58,7 +59,7 @@ pub fn iterators(alloc: Global, tables: &[Table<'_>]) -> Result<ByteText, NoMemo
 pub type Versions<'a> = (&'a str, &'a str, &'a str);
 
 /// An iterator of versions in scans.
-fn append_versions(text: &mut ByteText, table: &Versions<'_>) -> Result<(), NoMemory> {
+pub fn append_versions(text: &mut ByteText, table: &Versions<'_>) -> Result<(), NoMemory> {
     let (name, priority, max) = *table;
     append_all(
         text,
@@ -77,4 +78,19 @@ pub fn versions(alloc: Global, tables: &[Versions<'_>]) -> Result<ByteText, NoMe
         append_versions(&mut text, table)?;
     }
     Ok(text)
+}
+
+/// An iterator of one version in scans, whose name is `i` and its priority.
+pub fn append_numbered(text: &mut ByteText, number: i64) -> Result<(), NoMemory> {
+    append_all(text, &["[[iterator]]\nname = 'i"])?;
+    append_digits(text, number)?;
+    append_all(text, &["'\npriority = "])?;
+    append_digits(text, number)?;
+    append_all(text, &["\nkind = 'versions'\nmax = 1\nscopes = ['scan']\n"])
+}
+
+pub fn append_digits(text: &mut ByteText, number: i64) -> Result<(), NoMemory> {
+    let mut digits = NumberText::new();
+    digits.write(Encoding::String, number);
+    text.append(digits.bytes())
 }

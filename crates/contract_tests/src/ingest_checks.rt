@@ -1,6 +1,6 @@
 use cell_key::{ByteText, Mutation, NoMemory, Part, Update, Updates};
 use ingest::{Refused, check};
-use iter_config::{Config, ConfigError, read_config};
+use iter_config::{ConfigError, read_config};
 use std::alloc::Global;
 
 const SUM: &[u8] =
@@ -51,12 +51,12 @@ fn mutation(alloc: Global, changes: &[Change<'_>]) -> Result<Mutation, NoMemory>
 /// Why changes of the row `r` stay out of a log of so many mutations.
 fn refusal(
     alloc: Global,
-    config: &Config,
     log: u64,
     changes: &[Change<'_>],
-) -> Result<Option<Refused>, NoMemory> {
+) -> Result<Option<Refused>, ConfigError> {
+    let sum = read_config(alloc, SUM)?;
     let mutation = mutation(alloc, changes)?;
-    Ok(check(config, log, &mutation))
+    Ok(check(&sum, log, &mutation))
 }
 
 #[test]
@@ -106,12 +106,8 @@ fn mutations_are_checked_in_order(rt: HostRuntime) -> Result<(), ConfigError> {
             }),
         ),
     ];
-    let sum = read_config(rt.alloc(), SUM)?;
     for (i, (log, changes, refused)) in cases.iter().enumerate() {
-        assert!(rt;
-            refusal(rt.alloc(), &sum, *log, changes)? == *refused,
-            "{i}"
-        );
+        assert!(rt; refusal(rt.alloc(), *log, changes)? == *refused, "{i}");
     }
     Ok(())
 }
