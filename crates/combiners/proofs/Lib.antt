@@ -1,4 +1,3 @@
 pub mod OfColumns
 pub mod Passes
 pub mod Streams
-pub mod ExampleRows

@@ -5,4 +5,3 @@ pub mod CombineParts
 pub mod Joins
 pub mod LongParts
 pub mod ArrayParts
-pub mod Examples

@@ -15,6 +15,3 @@ pub use long_reducer::LongReducer;
 pub use reducer::Reducer;
 pub use stage::CombineStage;
 pub use steps::{combine_next, combine_seek, combine_top};
-
-#[cfg(test)]
-mod tests;

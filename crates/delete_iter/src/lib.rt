@@ -12,6 +12,3 @@ pub use live_iter::LiveIter;
 pub use mark::{mark_next, mark_seek, mark_top};
 pub use mark_iter::MarkIter;
 pub use stage::MarkStage;
-
-#[cfg(test)]
-mod tests;

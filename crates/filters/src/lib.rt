@@ -10,6 +10,3 @@ pub use filter::{filter_next, filter_seek, filter_top};
 pub use filter_iter::FilterIter;
 pub use stage::FilterStage;
 pub use testing::holds;
-
-#[cfg(test)]
-mod tests;

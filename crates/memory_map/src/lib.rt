@@ -8,6 +8,3 @@ mod updates;
 pub use mem_cursor::MemCursor;
 pub use mem_map::MemMap;
 pub use updates::append_mutation;
-
-#[cfg(test)]
-mod tests;

@@ -6,6 +6,3 @@ mod sources;
 mod tops;
 
 pub use merge::MergeIter;
-
-#[cfg(test)]
-mod tests;

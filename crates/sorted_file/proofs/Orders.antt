@@ -49,7 +49,3 @@ file_list_push list e is fits ordered = record {
   ascends = follows_ascends (list ++ e ∷ []) (follows_push None list e (ascends_follows list is.ascends) ordered);
   entries = all_push list e is.entries fits;
 }
-
-pub last_push : (o : Option Cell) (list : List Cell) (e : Cell) → last_or o (list ++ e ∷ []) ≡ Some e
-last_push o [] e = refl
-last_push o (x ∷ xs) e = last_push (Some x) xs e

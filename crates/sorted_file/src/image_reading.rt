@@ -26,7 +26,7 @@ struct Body<'a> {
 
 /// Whether an entry sorts before the one before it, if there is one.
 #[tactic(auto, unfolding(tablet_model::specs::Order::above))]
-pub(crate) fn is_out_of_order(before: Option<EntryRef<'_>>, entry: EntryRef<'_>) -> bool
+fn is_out_of_order(before: Option<EntryRef<'_>>, entry: EntryRef<'_>) -> bool
     ensures { result ≡ is_out_of_order (option_map cell_of before.entry) (cell_of entry.entry) }
 {
     match before {

@@ -19,6 +19,3 @@ pub use cursor::FileCursor;
 pub use fault::{Fault, ImageCause, OpenError};
 pub use file::SortedFile;
 pub use image_laws::images_are_exact;
-
-#[cfg(test)]
-mod tests;

@@ -8,6 +8,3 @@ mod version_iter;
 pub use stage::VersionStage;
 pub use version::{version_next, version_seek, version_top};
 pub use version_iter::VersionIter;
-
-#[cfg(test)]
-mod tests;

@@ -1,0 +1,86 @@
+ghost use Rattle.std.specs.Prelude.{◌≡◌, None, length, IfOk};
+ghost use Rattle.tablet_model.specs.Ingest.{out_of_bounds, too_long};
+ghost use Rattle.cell_key.specs.Mutations.{change_of, row_change_of};
+ghost use Rattle.cell_key.specs.RowBounds.{HasShortRow};
+
+use crate::fixtures::{leaves, range};
+use cell_key::{Bound, ByteText, Mutation, NoMemory, Update, Updates};
+use memory_map::MemMap;
+use std::alloc::Global;
+
+/// A put of `1` in the column `FAMILY::`, or a delete.
+#[tactic(auto, unfolding(tablet_model::specs::Ingest::too_long))]
+fn update(alloc: Global, family: &[u8], deletes: bool) -> Result<Update, NoMemory>
+    requires { length family.now ≡ 1 }
+    ensures { IfOk result (λ u. too_long (change_of u) ≡ None) }
+{
+    let family = ByteText::of(alloc, family)?;
+    let value = if deletes {
+        None
+    } else {
+        Some(ByteText::of(alloc, b"1")?)
+    };
+    Ok(Update {
+        family,
+        qualifier: ByteText::new(alloc),
+        visibility: ByteText::new(alloc),
+        value,
+    })
+}
+
+/// A put in `b::`, and a delete in `a::`.
+#[tactic(auto, unfolding(tablet_model::specs::Ingest::out_of_bounds, tablet_model::specs::Ingest::first_too_long))]
+fn mutation(alloc: Global, row: &[u8]) -> Result<Mutation, NoMemory>
+    requires { length row.now ≡ 1 }
+    ensures { IfOk result (λ m. out_of_bounds (row_change_of m) ≡ None) }
+{
+    let mut updates = Updates::new(alloc);
+    updates.push(update(alloc, b"b", false)?)?;
+    updates.push(update(alloc, b"a", true)?)?;
+    let row = ByteText::of(alloc, row)?;
+    Ok(Mutation { row, updates })
+}
+
+/// A map with the mutation of a row as well.
+fn added(alloc: Global, map: &MemMap, row: &[u8], time: i64) -> Result<MemMap, NoMemory>
+    requires { length row.now ≡ 1 }
+{
+    let mutation = mutation(alloc, row)?;
+    map.insert(alloc, &mutation, time)
+}
+
+fn one(alloc: Global) -> Result<MemMap, NoMemory> {
+    let empty = MemMap::empty(alloc)?;
+    added(alloc, &empty, b"s", 7)
+}
+
+fn is_empty(alloc: Global) -> Result<bool, NoMemory> {
+    let empty = MemMap::empty(alloc)?;
+    Ok(empty.count() == 0)
+}
+
+/// Whether a map has so many entries, and these behind a start.
+fn holds(
+    alloc: Global,
+    map: &MemMap,
+    count: u64,
+    start: Bound<'_>,
+    want: &[u8],
+) -> Result<bool, NoMemory>
+    requires { HasShortRow start }
+{
+    let cursor = map.cursor(alloc)?;
+    let left = leaves(alloc, &cursor, &range(start, Bound::Open), want)?;
+    Ok(left && map.count() == count)
+}
+
+#[test]
+fn mutations_are_added(rt: HostRuntime) -> Result<(), NoMemory> {
+    let one = one(rt.alloc())?;
+    let two = added(rt.alloc(), &one, b"r", i64::MIN)?;
+    assert!(rt; is_empty(rt.alloc())?);
+    assert!(rt; holds(rt.alloc(), &two, 4, Bound::Open, b"ra! rb=1 sa! sb=1 ")?);
+    assert!(rt; holds(rt.alloc(), &two, 4, Bound::PastRow(b"r"), b"sa! sb=1 ")?);
+    assert!(rt; holds(rt.alloc(), &one, 2, Bound::Open, b"sa! sb=1 ")?);
+    Ok(())
+}

@@ -1,8 +1,0 @@
-use Rattle.std.proofs.Common.{◌≡◌}
-use Rattle.std.specs.Option.{option_map}
-use Rattle.cell_key.specs.Views.{cell_of}
-use Rattle.sorted_file.specs.Lists.{last_of}
-use Rattle.sorted_file.proofs.tests.file_of.Given as goal
-
-abbrev pub invariant-loop-entry : goal.invariant-loop-entry
-invariant-loop-entry l = last_of l.builder ≡ option_map cell_of l.before
