@@ -3,8 +3,6 @@
 
 mod job_state;
 mod running_jobs;
-#[cfg(test)]
-mod tests;
 
 pub use iter_stack::{DoneJob, Job};
 pub use job_state::{JobState, JobStates};

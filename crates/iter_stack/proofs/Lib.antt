@@ -4,4 +4,3 @@ pub mod Runs
 pub mod Taken
 pub mod Stored
 pub mod Written
-pub mod ExampleStores

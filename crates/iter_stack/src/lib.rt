@@ -20,6 +20,3 @@ pub use stack::Stack;
 pub use usage::Usage;
 pub use walking::walk_to_end;
 pub use writing::{ALL_KEYS, compact};
-
-#[cfg(test)]
-mod tests;

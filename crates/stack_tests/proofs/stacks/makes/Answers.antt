@@ -3,7 +3,7 @@ use Rattle.tablet_model.specs.Reading.{AreUnmarkedRead}
 use Rattle.iter_config.specs.Stages.{stages_of}
 use Rattle.iter_contract.specs.VecRest.{vec_cells}
 use Rattle.iter_stack.proofs.Stored.{storable_read}
-use Rattle.iter_stack.proofs.tests.made.Goals as goal
+use Rattle.stack_tests.proofs.stacks.makes.Goals as goal
 
 pub build-requires-clause-read : goal.build-requires-clause-read
 build-requires-clause-read c =

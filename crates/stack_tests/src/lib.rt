@@ -1,0 +1,12 @@
+// Shows that stacks of iterators make of entries what their configuration says in each usage, that jobs compact memory and
+// files, and that running jobs are told by their numbers and files, where there is memory.
+#![tactic(auto)]
+
+#[cfg(test)]
+mod fixtures;
+#[cfg(test)]
+mod jobs;
+#[cfg(test)]
+mod running;
+#[cfg(test)]
+mod stacks;
