@@ -21,7 +21,6 @@ use std::test::Fail;
 /// A change of the column `FAMILY::` of a row at a time: a put of a value of one byte, or a delete.
 type Change = (u8, u8, i64, Option<u8>);
 
-
 #[tactic(auto, unfolding(tablet_model::specs::Ingest::out_of_bounds, tablet_model::specs::Ingest::first_too_long, tablet_model::specs::Ingest::too_long))]
 fn mutation(alloc: Global, row: u8, family: u8, value: Option<u8>) -> Result<Mutation, NoMemory>
     ensures { IfOk result (λ m. out_of_bounds (row_change_of m) ≡ None) }
@@ -172,12 +171,7 @@ fn jobs_write_memory(rt: HostRuntime) -> Result<(), Fail> {
 }
 
 /// Whether a compaction of a file and of newer entries in memory makes these entries.
-fn makes(
-    alloc: Global,
-    config: &Arc<Config>,
-    usage: Usage,
-    cells: &[Cell],
-) -> Result<bool, Fail> {
+fn makes(alloc: Global, config: &Arc<Config>, usage: Usage, cells: &[Cell]) -> Result<bool, Fail> {
     let file = part_in_file(alloc, config, OLDER)?;
     let parts = vec![in alloc; file, part_in_memory(alloc, NEWER)?]?;
     let done = compacted(alloc, config, usage, parts)?;
