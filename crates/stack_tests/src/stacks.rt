@@ -6,7 +6,7 @@ ghost use Rattle.iter_contract.specs.VecRest.{vec_cells};
 ghost use Rattle.iter_config.specs.RulesOf.{rules_of};
 
 use crate::fixtures::{Cell, are_storable, config, copy_has};
-use cell_key::{Entries, Entry, EntryRef, Key, KeyError, NoMemory};
+use cell_key::{Entries, Entry, EntryRef, Key, KeyError, KeyRef, NoMemory};
 use iter_config::Config;
 use iter_contract::{SortedSource, VecSource};
 use iter_stack::{Usage, build};
@@ -14,14 +14,14 @@ use std::alloc::Global;
 use std::sync::Arc;
 use std::test::Fail;
 
+fn entry_of<'a>(alloc: Global, key: KeyRef<'a>, value: &'a [u8]) -> Result<Entry, NoMemory> {
+    Entry::of(alloc, EntryRef { key, value })
+}
+
 fn entry(alloc: Global, cell: &Cell) -> Result<Entry, KeyError> {
     let (row, family, time, deleted, value) = *cell;
     let key = Key::new(alloc, row, family, b"q", b"", time, deleted)?;
-    let entry = EntryRef {
-        key: key.key(),
-        value,
-    };
-    Ok(Entry::of(alloc, entry)?)
+    Ok(entry_of(alloc, key.key(), value)?)
 }
 
 /// Entries of six columns.
