@@ -1,4 +1,4 @@
-ghost use Rattle.std.specs.Prelude.{◌≡◌, ◌<◌, ◌^◌, option_map, IfOk};
+ghost use Rattle.std.specs.Prelude.{◌≡◌, option_map, IfOk};
 ghost use Rattle.tablet_model.specs.Steps.{find_job};
 ghost use Rattle.tablet_core.specs.Jobs.{flush_of, major_of};
 

@@ -1,5 +1,3 @@
-ghost use Rattle.std.specs.Prelude.{◌≡◌, ◌<◌, ◌^◌, None};
-
 use crate::fixtures::{Cell, Change, config, has, has_left, mutation};
 use cell_key::{ByteText, Families, Names, NoMemory};
 use ingest::Refused;
