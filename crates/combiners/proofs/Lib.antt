@@ -1,3 +1,4 @@
+pub mod Firsts
 pub mod OfColumns
 pub mod Passes
 pub mod Streams
