@@ -2,7 +2,7 @@ use cell_key::{ByteText, NoMemory};
 use number_values::{Encoding, NumberText};
 use std::alloc::Global;
 
-/// Fields of kinds of iterators, and lists of scopes.
+// Lists of scopes.
 pub const SCAN: &str = "'scan'";
 
 pub const MINC: &str = "'scan', 'minc'";
@@ -11,6 +11,7 @@ pub const MAJC: &str = "'scan', 'majc'";
 
 pub const ALL: &str = "'scan', 'minc', 'majc'";
 
+// Fields of kinds.
 pub const NEWEST: &str = "kind = 'versions'\nmax = 1";
 
 pub const FAMILY: &str = "kind = 'family'\nfamilies = ['a']";

@@ -1,4 +1,4 @@
-use cell_key::{Mutation, NoMemory, Update};
+use cell_key::{Mutation, Update};
 use script_text::{Line, LineError, Lines, parse_line, split_input};
 use std::alloc::Global;
 
