@@ -74,13 +74,24 @@ fn holds(
     Ok(left && map.count() == count)
 }
 
+fn are_added(alloc: Global, one: &MemMap, two: &MemMap) -> Result<bool, NoMemory> {
+    Ok(
+        holds(alloc, two, 4, Bound::Open, b"ra! rb=1 sa! sb=1 ")?
+            && holds(alloc, two, 4, Bound::PastRow(b"r"), b"sa! sb=1 ")?
+            && holds(alloc, one, 2, Bound::Open, b"sa! sb=1 ")?,
+    )
+}
+
 #[test]
 fn mutations_are_added(rt: HostRuntime) -> Result<(), NoMemory> {
     let one = one(rt.alloc())?;
     let two = added(rt.alloc(), &one, b"r", i64::MIN)?;
+    assert!(rt; are_added(rt.alloc(), &one, &two)?);
+    Ok(())
+}
+
+#[test]
+fn a_new_map_is_empty(rt: HostRuntime) -> Result<(), NoMemory> {
     assert!(rt; is_empty(rt.alloc())?);
-    assert!(rt; holds(rt.alloc(), &two, 4, Bound::Open, b"ra! rb=1 sa! sb=1 ")?);
-    assert!(rt; holds(rt.alloc(), &two, 4, Bound::PastRow(b"r"), b"sa! sb=1 ")?);
-    assert!(rt; holds(rt.alloc(), &one, 2, Bound::Open, b"sa! sb=1 ")?);
     Ok(())
 }
