@@ -1,5 +1,6 @@
 pub mod Usages
 pub mod Firsts
+pub mod Fours
 pub mod LevelStages
 pub mod Levels
 pub mod Stacks

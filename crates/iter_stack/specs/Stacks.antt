@@ -5,41 +5,8 @@ use Rattle.tablet_model.specs.Order.{above}
 use Rattle.tablet_model.specs.Sorted.{Ascends}
 use Rattle.tablet_model.specs.Bounds.{AreEntries}
 use Rattle.iter_stack.specs.Levels.{level_cells, level_rest, level_steady, level_valid, level_sorted, level_bounded}
-use Rattle.iter_stack.specs.declared.level.Level.{Level}
+use Rattle.iter_stack.specs.Fours.{four_cells, four_rest, four_steady, four_valid, four_sorted, four_bounded}
 use Rattle.iter_stack.specs.declared.stack.Stack.{Stack}
-
--- four levels, one over the other
-module _ {S : Type 0} where
-  -- what the fourth makes of what the third makes, and so on
-  abbrev pub four_cells : (S → List Cell) → Level (Level (Level (Level S))) → List Cell
-  four_cells cells = level_cells (level_cells (level_cells (level_cells cells)))
-
-  -- what the fourth has left
-  abbrev pub four_rest : (S → List Cell) → Level (Level (Level (Level S))) → List Cell
-  four_rest rest = level_rest (level_rest (level_rest (level_rest rest)))
-
-  -- they are steady where the source and all four are
-  abbrev pub four_steady : (S → Bool) → Level (Level (Level (Level S))) → Bool
-  four_steady steady = level_steady (level_steady (level_steady (level_steady steady)))
-
-  -- what the four make is in order where the source's entries are
-  pub four_sorted : (cells : S → List Cell) → ((s : S) → Ascends above (cells s)) → (l : Level (Level (Level (Level S)))) → Ascends above (four_cells cells l)
-  four_sorted cells up = level_sorted (level_cells (level_cells (level_cells cells))) (level_sorted (level_cells (level_cells cells)) (level_sorted (level_cells cells) (level_sorted cells up)))
-
-  -- what the four make is within bounds where the source's entries are
-  pub four_bounded : (cells : S → List Cell) → ((s : S) → AreEntries (cells s)) → (l : Level (Level (Level (Level S)))) → AreEntries (four_cells cells l)
-  four_bounded cells all = level_bounded (level_cells (level_cells (level_cells cells))) (level_bounded (level_cells (level_cells cells)) (level_bounded (level_cells cells) (level_bounded cells all)))
-
--- the parts of levels that stand one over another
-module _ {S : Type 0} where
-  -- of two
-  abbrev pub two_valid : (S → List Cell) → (S → List Cell) → (S → Type 0) → Level (Level S) → Type 0
-  two_valid cells rest valid = level_valid (level_cells cells) (level_rest rest) (level_valid cells rest valid)
-
-module _ {S : Type 0} where
-  -- of four
-  abbrev pub four_valid : (S → List Cell) → (S → List Cell) → (S → Type 0) → Level (Level (Level (Level S))) → Type 0
-  four_valid cells rest valid = two_valid (level_cells (level_cells cells)) (level_rest (level_rest rest)) (two_valid cells rest valid)
 
 -- the bottom level and sixteen over it
 module _ {S : Type 0} where

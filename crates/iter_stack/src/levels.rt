@@ -3,11 +3,11 @@ ghost use Rattle.std.specs.Prelude.{◌≡◌, ◌≤◌, [], IfOk, slice_get};
 ghost use Rattle.iter_contract.specs.Copies.{IsCopy};
 ghost use Rattle.iter_stack.specs.LevelStages.{IsFresh};
 ghost use Rattle.iter_stack.specs.Levels.{level_cells, level_rest, level_steady, level_valid};
-ghost use Rattle.iter_stack.specs.Stacks.{four_cells, four_rest, four_steady, four_valid};
+ghost use Rattle.iter_stack.specs.Fours.{four_cells, four_rest, four_steady, four_valid};
 ghost use Rattle.iter_stack.specs.Places.{bottom_cells, made_at, steady_at, TakesAt, four_made, steady_by_four, FourTake};
 
+use crate::four::Four;
 use crate::level::Level;
-use crate::stack::Four;
 use crate::stage::LevelStage;
 use crate::usage::Usage;
 use cell_key::NoMemory;
@@ -68,6 +68,7 @@ fn level_at<S: SortedSource>(
 }
 
 /// The iterator at place `i` and the three behind it over a source that was not sought.
+#[tactic(auto, unfolding(crate::specs::Fours::four_cells, crate::specs::Fours::four_rest, crate::specs::Fours::four_steady, crate::specs::Fours::four_valid))]
 pub(crate) fn four_over<S: SortedSource>(
     alloc: Global,
     config: &Config,
@@ -88,5 +89,6 @@ pub(crate) fn four_over<S: SortedSource>(
     let one = level_at(alloc, config, usage, i, source)?;
     let two = level_at(alloc, config, usage, i + 1, one)?;
     let three = level_at(alloc, config, usage, i + 2, two)?;
-    level_at(alloc, config, usage, i + 3, three)
+    let levels = level_at(alloc, config, usage, i + 3, three)?;
+    Ok(Four { levels })
 }

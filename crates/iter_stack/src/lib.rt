@@ -3,6 +3,7 @@
 #![tactic(auto)]
 
 mod building;
+mod four;
 mod job;
 mod level;
 mod levels;

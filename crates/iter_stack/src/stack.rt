@@ -1,12 +1,10 @@
 #![tactic(auto, unfolding(crate::specs::Stacks::stack_cells, crate::specs::Stacks::stack_rest, crate::specs::Stacks::stack_steady, crate::specs::Stacks::stack_valid))]
 
+use crate::four::Four;
 use crate::level::Level;
 use cell_key::{EntryRef, NoMemory, Range};
 use iter_contract::SortedSource;
 use std::alloc::Global;
-
-/// Four levels, one over another.
-pub type Four<S> = Level<Level<Level<Level<S>>>>;
 
 /// The iterators of a configuration over a leaf, one over another. The lowest level drops what deletes hide, and sixteen
 /// stand over it; one that no iterator needs shows what is under it as it is. It is steady where its leaf is, and no
