@@ -1,4 +1,4 @@
-ghost use Rattle.std.specs.Prelude.{◌≡◌, ◌≢◌, option_map, IfOk};
+ghost use Rattle.std.specs.Prelude.{◌≡◌, ◌≢◌, IfOk};
 ghost use Rattle.std.specs.Arc.{arc_value};
 ghost use Rattle.iter_contract.specs.VecRest.{vec_cells};
 ghost use Rattle.iterator_tests.specs.Examples.{example_names, example_cells, example_arrays, AreNumbers};

@@ -122,15 +122,18 @@ fn damaged_images_are_refused(rt: HostRuntime) -> Result<(), NoMemory> {
 }
 
 /// For a cut after so many bytes, the place of the first field that it lacks.
-const LACKS: [u8; 53] =
-    *b"\x00\x00\x00\x00\x04\x05\x05\x07\x07\x09\x09\x0b\x0c\x0c\x0e\x0f\x0f\x11\x11\x11\x11\x11\x11\x11\x11\x19\x1a\x1a\x1a\x1a\x1e\x1f\x1f\x21\x21\x21\x21\x21\x21\x21\x21\x29\x29\x29\x29\x29\x29\x29\x29\x31\x31\x31\x31";
+const LACKS: [u64; 53] = [
+    0, 0, 0, 0, 4, 5, 5, 7, 7, 9, 9, 11, 12, 12, 14, 15, 15, 17, 17, 17, 17, 17, 17, 17, 17, 25,
+    26, 26, 26, 26, 30, 31, 31, 33, 33, 33, 33, 33, 33, 33, 33, 41, 41, 41, 41, 41, 41, 41, 41, 49,
+    49, 49, 49,
+];
 
 #[test]
 fn cut_images_are_refused(rt: HostRuntime) -> Result<(), NoMemory> {
     for (length, at) in LACKS.iter().enumerate() {
         let cut = &ONE[..length];
         assert!(rt;
-            is_refused(rt.alloc(), cut, u64::from(*at), ImageCause::Length)?,
+            is_refused(rt.alloc(), cut, *at, ImageCause::Length)?,
             "{length}"
         );
     }

@@ -50,7 +50,7 @@ fn none_merged(alloc: Global) -> Result<bool, NoMemory> {
 }
 
 #[test]
-fn sources_three_merged(rt: HostRuntime) -> Result<(), NoMemory> {
+fn sources_are_merged(rt: HostRuntime) -> Result<(), NoMemory> {
     assert!(rt; three_merged(rt.alloc())?);
     assert!(rt; none_merged(rt.alloc())?);
     Ok(())
