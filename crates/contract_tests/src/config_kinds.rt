@@ -198,8 +198,8 @@ fn is_kind(alloc: Global, fields: &str, want: &[u8]) -> Result<bool, ConfigError
 
 #[test]
 fn kinds_are_read(rt: HostRuntime) -> Result<(), ConfigError> {
-    for (fields, want) in KINDS {
-        assert!(rt; is_kind(rt.alloc(), fields, want)?, "at {fields}");
+    for (i, (fields, want)) in KINDS.iter().enumerate() {
+        assert!(rt; is_kind(rt.alloc(), fields, want)?, "{i}");
     }
     Ok(())
 }
@@ -316,21 +316,22 @@ fn answers(
     ))
 }
 
+/// Family, qualifier and value; whether a delete is refused, whether the value is read.
+const COLUMN_ANSWERS: [(&[u8], &[u8], &[u8], (bool, bool)); 9] = [
+    (b"n", b"x", b"5", (true, true)),
+    (b"n", b"x", b"-5", (true, false)),
+    (b"n", b"x", b"", (true, false)),
+    (b"n", b"y", b"-5", (false, true)),
+    (b"x", b"n", b"?", (false, true)),
+    (b"a", b"q", b"?", (true, false)),
+    (b"m", b"", b"-5", (false, true)),
+    (b"m", b"q", b"five", (false, false)),
+    (b"", b"", b"", (false, true)),
+];
+
 #[test]
 fn combiners_ask_of_their_columns(rt: HostRuntime) -> Result<(), ConfigError> {
-    // Family, qualifier and value; whether a delete is refused, whether the value is read.
-    let rows: [(&[u8], &[u8], &[u8], (bool, bool)); 9] = [
-        (b"n", b"x", b"5", (true, true)),
-        (b"n", b"x", b"-5", (true, false)),
-        (b"n", b"x", b"", (true, false)),
-        (b"n", b"y", b"-5", (false, true)),
-        (b"x", b"n", b"?", (false, true)),
-        (b"a", b"q", b"?", (true, false)),
-        (b"m", b"", b"-5", (false, true)),
-        (b"m", b"q", b"five", (false, false)),
-        (b"", b"", b"", (false, true)),
-    ];
-    for (i, (family, qualifier, value, want)) in rows.iter().enumerate() {
+    for (i, (family, qualifier, value, want)) in COLUMN_ANSWERS.iter().enumerate() {
         assert!(rt;
             answers(rt.alloc(), family, qualifier, value)? == *want,
             "{i}"

@@ -59,54 +59,59 @@ fn refusal(
     Ok(check(&sum, log, &mutation))
 }
 
+const ONE: Option<&[u8]> = Some(b"1");
+
+const WORD: Option<&[u8]> = Some(b"one");
+
+const LONG: &[u8] = &[b'f'; 1025];
+
+/// How many mutations a log has, changes, and why they stay out.
+const CASES: [(u64, &[Change<'static>], Option<Refused>); 10] = [
+    (0, &[(b"n", ONE), (b"a", WORD), (b"a", None)], None),
+    (524_287, &[(b"n", ONE)], None),
+    (524_288, &[(b"n", ONE)], Some(Refused::Full)),
+    (524_288, &[(b"n", WORD)], Some(Refused::Value { at: 1 })),
+    (
+        0,
+        &[(b"a", None), (b"n", ONE), (b"n", None)],
+        Some(Refused::DeleteHere { at: 3 }),
+    ),
+    (
+        0,
+        &[(b"n", WORD), (b"a", ONE), (b"a", WORD)],
+        Some(Refused::Duplicate { at: 3 }),
+    ),
+    (
+        0,
+        &[(b"a", None), (b"b", ONE), (b"a", None)],
+        Some(Refused::Duplicate { at: 3 }),
+    ),
+    (
+        0,
+        &[(b"n", WORD), (b"n", None)],
+        Some(Refused::DeleteHere { at: 2 }),
+    ),
+    (
+        0,
+        &[],
+        Some(Refused::Bound {
+            at: 0,
+            part: Part::Updates,
+        }),
+    ),
+    (
+        0,
+        &[(b"a", ONE), (b"a", ONE), (LONG, None)],
+        Some(Refused::Bound {
+            at: 3,
+            part: Part::Family,
+        }),
+    ),
+];
+
 #[test]
 fn mutations_are_checked_in_order(rt: HostRuntime) -> Result<(), ConfigError> {
-    let one: Option<&[u8]> = Some(b"1");
-    let word: Option<&[u8]> = Some(b"one");
-    let long: &[u8] = &[b'f'; 1025];
-    let cases: [(u64, &[Change<'_>], Option<Refused>); 10] = [
-        (0, &[(b"n", one), (b"a", word), (b"a", None)], None),
-        (524_287, &[(b"n", one)], None),
-        (524_288, &[(b"n", one)], Some(Refused::Full)),
-        (524_288, &[(b"n", word)], Some(Refused::Value { at: 1 })),
-        (
-            0,
-            &[(b"a", None), (b"n", one), (b"n", None)],
-            Some(Refused::DeleteHere { at: 3 }),
-        ),
-        (
-            0,
-            &[(b"n", word), (b"a", one), (b"a", word)],
-            Some(Refused::Duplicate { at: 3 }),
-        ),
-        (
-            0,
-            &[(b"a", None), (b"b", one), (b"a", None)],
-            Some(Refused::Duplicate { at: 3 }),
-        ),
-        (
-            0,
-            &[(b"n", word), (b"n", None)],
-            Some(Refused::DeleteHere { at: 2 }),
-        ),
-        (
-            0,
-            &[],
-            Some(Refused::Bound {
-                at: 0,
-                part: Part::Updates,
-            }),
-        ),
-        (
-            0,
-            &[(b"a", one), (b"a", one), (long, None)],
-            Some(Refused::Bound {
-                at: 3,
-                part: Part::Family,
-            }),
-        ),
-    ];
-    for (i, (log, changes, refused)) in cases.iter().enumerate() {
+    for (i, (log, changes, refused)) in CASES.iter().enumerate() {
         assert!(rt; refusal(rt.alloc(), *log, changes)? == *refused, "{i}");
     }
     Ok(())

@@ -67,36 +67,38 @@ fn is_refusal(alloc: Global, refusal: &Refusal, want: &str) -> Result<bool, NoMe
     Ok(text.bytes() == want.as_bytes())
 }
 
+/// Refusals and their lines.
+const REFUSALS: [(Refusal, &str); 24] = [
+    (Refusal::Syntax, "no syntax\n"),
+    (Refusal::Bound(Part::Row), "no bound row\n"),
+    (Refusal::Bound(Part::Updates), "no bound updates\n"),
+    (Refusal::Bound(Part::Family), "no bound family\n"),
+    (Refusal::Bound(Part::Qualifier), "no bound qualifier\n"),
+    (Refusal::Bound(Part::Visibility), "no bound visibility\n"),
+    (Refusal::Bound(Part::Value), "no bound value\n"),
+    (Refusal::Duplicate, "no duplicate\n"),
+    (Refusal::DeleteHere, "no delete\n"),
+    (Refusal::Time, "no time\n"),
+    (Refusal::Value, "no value\n"),
+    (Refusal::Full, "no full\n"),
+    (Refusal::NothingInMemory, "no empty\n"),
+    (Refusal::FrozenThere, "no frozen-there\n"),
+    (Refusal::NothingFrozen, "no not-frozen\n"),
+    (Refusal::TooManyFiles, "no too-many-files\n"),
+    (Refusal::JobExists(1), "no job-exists j1\n"),
+    (Refusal::NoFiles, "no files\n"),
+    (Refusal::NoSuchFile(7), "no file f7\n"),
+    (Refusal::InJob { file: 1, job: 2 }, "no in-job f1 j2\n"),
+    (Refusal::NoSuchJob(9), "no job j9\n"),
+    (Refusal::SessionOpen(64), "no session-open s64\n"),
+    (Refusal::NoSession(3), "no session s3\n"),
+    (Refusal::Live, "no live\n"),
+];
+
 #[test]
 fn refusals_are_written(rt: HostRuntime) -> Result<(), NoMemory> {
-    let refusals = [
-        (Refusal::Syntax, "no syntax\n"),
-        (Refusal::Bound(Part::Row), "no bound row\n"),
-        (Refusal::Bound(Part::Updates), "no bound updates\n"),
-        (Refusal::Bound(Part::Family), "no bound family\n"),
-        (Refusal::Bound(Part::Qualifier), "no bound qualifier\n"),
-        (Refusal::Bound(Part::Visibility), "no bound visibility\n"),
-        (Refusal::Bound(Part::Value), "no bound value\n"),
-        (Refusal::Duplicate, "no duplicate\n"),
-        (Refusal::DeleteHere, "no delete\n"),
-        (Refusal::Time, "no time\n"),
-        (Refusal::Value, "no value\n"),
-        (Refusal::Full, "no full\n"),
-        (Refusal::NothingInMemory, "no empty\n"),
-        (Refusal::FrozenThere, "no frozen-there\n"),
-        (Refusal::NothingFrozen, "no not-frozen\n"),
-        (Refusal::TooManyFiles, "no too-many-files\n"),
-        (Refusal::JobExists(1), "no job-exists j1\n"),
-        (Refusal::NoFiles, "no files\n"),
-        (Refusal::NoSuchFile(7), "no file f7\n"),
-        (Refusal::InJob { file: 1, job: 2 }, "no in-job f1 j2\n"),
-        (Refusal::NoSuchJob(9), "no job j9\n"),
-        (Refusal::SessionOpen(64), "no session-open s64\n"),
-        (Refusal::NoSession(3), "no session s3\n"),
-        (Refusal::Live, "no live\n"),
-    ];
-    for (refusal, want) in refusals {
-        assert!(rt; is_refusal(rt.alloc(), &refusal, want)?, "at {want}");
+    for (i, (refusal, want)) in REFUSALS.iter().enumerate() {
+        assert!(rt; is_refusal(rt.alloc(), refusal, want)?, "{i}");
     }
     Ok(())
 }

@@ -4,6 +4,8 @@ use crate::command::{MAX_INPUT, replay, run};
 use cell_key::{ByteText, NoMemory};
 use std::alloc::Global;
 use std::string::String;
+use std::sync::Wait;
+use std::thread::Threads;
 use tablet_io::{Calls, MemSink, MemSource, OpenGate, Status};
 
 const SCRIPT: &[u8] = b"%%\nm r1 +a:x:=1\nscan\n";
@@ -12,17 +14,23 @@ const ANSWERS: &[u8] = b"m 1\nat 1\nr1 a:x: @1 =1\nend 1\n";
 
 const USAGE: &[u8] = b"usage: replay | live SCANNERS CHUNK BATCH | pack | show | gen START SIZE\n";
 
-/// The script, of which a call gives so many bytes.
-fn script(alloc: Global, step: usize, failing: Calls) -> Result<MemSource, NoMemory>
-    requires { 1 ≤ step }
+/// How many bytes a call of a source or a sink moves, and which call fails; none has the number 0.
+type Port = (usize, u64);
+
+/// The script at a port.
+fn script(alloc: Global, port: Port) -> Result<MemSource, NoMemory>
+    requires { 1 ≤ port.0 }
 {
     let bytes = ByteText::of(alloc, SCRIPT)?;
-    Ok(MemSource::new(bytes, step, failing))
+    let failing = Calls::of(alloc, &[port.1])?;
+    Ok(MemSource::new(bytes, port.0, failing))
 }
 
-/// The call of this number.
-fn call(alloc: Global, number: u64) -> Result<Calls, NoMemory> {
-    Calls::of(alloc, &[number])
+fn sink(alloc: Global, port: Port) -> Result<MemSink, NoMemory>
+    requires { 1 ≤ port.0 }
+{
+    let failing = Calls::of(alloc, &[port.1])?;
+    MemSink::new(alloc, 4096, port.0, failing)
 }
 
 /// Whether a replay ends so, and this is what was written.
@@ -36,53 +44,29 @@ fn ends(
     replay(alloc, input, output) == status && output.bytes() == text
 }
 
-#[test]
-fn a_script_is_read_and_answered_in_pieces(rt: HostRuntime) -> Result<(), NoMemory> {
-    let mut input = script(rt.alloc(), 1, Calls::none())?;
-    let mut output = MemSink::new(rt.alloc(), 4096, 7, Calls::none())?;
-    assert!(rt; ends(rt.alloc(), &mut input, &mut output, Status::Done, ANSWERS));
-    Ok(())
+/// Whether a replay of the script between two ports ends so, and this is what was written.
+fn script_ends(
+    alloc: Global,
+    read: Port,
+    written: Port,
+    status: Status,
+    text: &[u8],
+) -> Result<bool, NoMemory>
+    requires read { 1 ≤ read.0 }
+    requires written { 1 ≤ written.0 }
+{
+    let mut input = script(alloc, read)?;
+    let mut output = sink(alloc, written)?;
+    Ok(ends(alloc, &mut input, &mut output, status, text))
 }
 
 #[test]
-fn nothing_is_written_after_a_failed_read(rt: HostRuntime) -> Result<(), NoMemory> {
-    let mut input = script(rt.alloc(), 9, call(rt.alloc(), 1)?)?;
-    let mut output = MemSink::new(rt.alloc(), 4096, 1000, Calls::none())?;
-    assert!(rt; ends(rt.alloc(), &mut input, &mut output, Status::ReadFault, b""));
-    Ok(())
-}
-
-#[test]
-fn nothing_is_written_after_a_read_that_fails_in_the_middle(
-    rt: HostRuntime,
-) -> Result<(), NoMemory> {
-    let mut input = script(rt.alloc(), 9, call(rt.alloc(), 2)?)?;
-    let mut output = MemSink::new(rt.alloc(), 4096, 1000, Calls::none())?;
-    assert!(rt; ends(rt.alloc(), &mut input, &mut output, Status::ReadFault, b""));
-    Ok(())
-}
-
-#[test]
-fn a_write_that_fails_at_once_takes_nothing(rt: HostRuntime) -> Result<(), NoMemory> {
-    let mut input = script(rt.alloc(), 9, Calls::none())?;
-    let mut output = MemSink::new(rt.alloc(), 4096, 1000, call(rt.alloc(), 1)?)?;
-    assert!(rt; ends(rt.alloc(), &mut input, &mut output, Status::WriteFault, b""));
-    Ok(())
-}
-
-#[test]
-fn a_write_that_fails_in_the_middle_leaves_a_prefix(rt: HostRuntime) -> Result<(), NoMemory> {
-    let mut input = script(rt.alloc(), 9, Calls::none())?;
-    let mut output = MemSink::new(rt.alloc(), 4096, 3, call(rt.alloc(), 2)?)?;
-    assert!(rt;
-        ends(
-            rt.alloc(),
-            &mut input,
-            &mut output,
-            Status::WriteFault,
-            b"m 1"
-        )
-    );
+fn faults_have_their_status(rt: HostRuntime) -> Result<(), NoMemory> {
+    assert!(rt; script_ends(rt.alloc(), (1, 0), (7, 0), Status::Done, ANSWERS)?);
+    assert!(rt; script_ends(rt.alloc(), (9, 1), (1000, 0), Status::ReadFault, b"")?);
+    assert!(rt; script_ends(rt.alloc(), (9, 2), (1000, 0), Status::ReadFault, b"")?);
+    assert!(rt; script_ends(rt.alloc(), (9, 0), (1000, 1), Status::WriteFault, b"")?);
+    assert!(rt; script_ends(rt.alloc(), (9, 0), (3, 2), Status::WriteFault, b"m 1")?);
     Ok(())
 }
 
@@ -98,7 +82,7 @@ fn too_long(alloc: Global) -> Result<MemSource, NoMemory> {
 #[test]
 fn an_input_beyond_the_bound_is_too_long(rt: HostRuntime) -> Result<(), NoMemory> {
     let mut input = too_long(rt.alloc())?;
-    let mut output = MemSink::new(rt.alloc(), 4096, 1000, Calls::none())?;
+    let mut output = sink(rt.alloc(), (1000, 0))?;
     assert!(rt; ends(rt.alloc(), &mut input, &mut output, Status::TooLong, b""));
     Ok(())
 }
@@ -110,22 +94,22 @@ fn words(alloc: Global, word: &str) -> Result<Vec<String>, NoMemory> {
     Ok(words)
 }
 
-#[test]
-fn an_unknown_word_reads_nothing(rt: HostRuntime) -> Result<(), NoMemory> {
-    let words = words(rt.alloc(), "repaly")?;
-    let mut input = script(rt.alloc(), 9, call(rt.alloc(), 1)?)?;
-    let mut output = MemSink::new(rt.alloc(), 4096, 1000, Calls::none())?;
-    let status = run(&rt, rt.alloc(), &words, &mut input, &mut output, &OpenGate);
-    assert!(rt; status == Status::Usage && output.bytes() == USAGE);
-    Ok(())
+/// Whether the words are run so on the script, and this is what was written.
+fn runs<R: Threads + Wait + Sync + AllocGlobal>(
+    rt: &R,
+    words: &[String],
+    status: Status,
+    text: &[u8],
+) -> Result<bool, NoMemory> {
+    let mut input = script(rt.alloc(), (9, 0))?;
+    let mut output = sink(rt.alloc(), (1000, 0))?;
+    let ended = run(rt, rt.alloc(), words, &mut input, &mut output, &OpenGate);
+    Ok(ended == status && output.bytes() == text)
 }
 
 #[test]
-fn a_known_word_runs_its_command(rt: HostRuntime) -> Result<(), NoMemory> {
-    let words = words(rt.alloc(), "replay")?;
-    let mut input = script(rt.alloc(), 9, Calls::none())?;
-    let mut output = MemSink::new(rt.alloc(), 4096, 1000, Calls::none())?;
-    let status = run(&rt, rt.alloc(), &words, &mut input, &mut output, &OpenGate);
-    assert!(rt; status == Status::Done && output.bytes() == ANSWERS);
+fn an_unknown_word_has_the_usage(rt: HostRuntime) -> Result<(), NoMemory> {
+    let words = words(rt.alloc(), "repaly")?;
+    assert!(rt; runs(&rt, &words, Status::Usage, USAGE)?);
     Ok(())
 }
