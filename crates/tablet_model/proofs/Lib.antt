@@ -17,6 +17,7 @@ pub mod CutLemmas
 pub mod Seeks
 pub mod Histories
 pub mod Ingests
+pub mod Runs
 pub mod ExampleCells
 mod ExamplesOrder
 mod ExamplesRanges

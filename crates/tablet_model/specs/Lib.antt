@@ -28,3 +28,4 @@ pub mod Store
 pub mod Steps
 pub mod Stands
 pub mod Laws
+pub mod Runs
