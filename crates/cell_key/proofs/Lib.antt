@@ -1,3 +1,4 @@
 pub mod Spelling
 pub mod Sorting
 pub mod Numbering
+pub mod SameColumn

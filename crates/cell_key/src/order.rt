@@ -15,9 +15,9 @@ pub(crate) fn compare_columns(a: KeyRef<'_>, b: KeyRef<'_>) -> Ordering
 {
     a.row
         .cmp(b.row)
-        .then(a.family.cmp(b.family))
-        .then(a.qualifier.cmp(b.qualifier))
-        .then(a.visibility.cmp(b.visibility))
+        .then_with(|| a.family.cmp(b.family))
+        .then_with(|| a.qualifier.cmp(b.qualifier))
+        .then_with(|| a.visibility.cmp(b.visibility))
 }
 
 /// The order of keys, as in Accumulo: by column, then the newer first, and of one time the deleted first.
@@ -25,7 +25,7 @@ pub(crate) fn compare_columns(a: KeyRef<'_>, b: KeyRef<'_>) -> Ordering
 pub fn compare(a: KeyRef<'_>, b: KeyRef<'_>) -> Ordering
     ensures { result ≡ key_cmp (key_of a.entry) (key_of b.entry) }
 {
-    compare_columns(a, b).then(b.time.cmp(&a.time).then(b.deleted.cmp(&a.deleted)))
+    compare_columns(a, b).then_with(|| b.time.cmp(&a.time).then(b.deleted.cmp(&a.deleted)))
 }
 
 /// The order of entries: by key, and of equal keys by value.
@@ -33,14 +33,18 @@ pub fn compare(a: KeyRef<'_>, b: KeyRef<'_>) -> Ordering
 pub fn compare_entries(a: EntryRef<'_>, b: EntryRef<'_>) -> Ordering
     ensures { result ≡ cell_cmp (cell_of a.entry) (cell_of b.entry) }
 {
-    compare(a.key, b.key).then(a.value.cmp(b.value))
+    compare(a.key, b.key).then_with(|| a.value.cmp(b.value))
 }
 
 /// Whether the keys are of one column.
+#[tactic(auto, using(crate::proofs::SameColumn::same_parts))]
 pub fn same_column(a: KeyRef<'_>, b: KeyRef<'_>) -> bool
     ensures { result ≡ is_column (Some (column_of (key_of a.entry))) (column_of (key_of b.entry)) }
 {
-    compare_columns(a, b).is_eq()
+    a.row == b.row
+        && a.family == b.family
+        && a.qualifier == b.qualifier
+        && a.visibility == b.visibility
 }
 
 /// The first key that a key's column can have.
