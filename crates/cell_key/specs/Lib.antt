@@ -3,6 +3,7 @@ pub mod Made
 pub mod RowBounds
 pub mod Ranges
 pub mod ColumnParts
+pub mod EntryParts
 pub mod BoundParts
 pub mod Listed
 pub mod FileNumbers

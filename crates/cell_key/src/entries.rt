@@ -37,15 +37,33 @@ impl Entries {
         }
     }
 
-    /// An equal list.
+    /// The empty list, with places for some entries.
+    pub fn with_capacity(alloc: Global, capacity: usize) -> Result<Entries, NoMemory>
+        ensures { IfOk result (λ list. list ≡ []) }
+    {
+        let entries = Vec::with_capacity(alloc, capacity)?;
+        Ok(Entries { entries })
+    }
+
+    /// An equal list, which shares its entries.
     pub fn copy(&self, alloc: Global) -> Result<Entries, NoMemory>
         ensures { IfOk result (λ copy. copy ≡ self.now) }
     {
-        let mut entries = Vec::with_capacity(alloc, self.len())?;
-        for entry in self.as_slice() {
-            entries.push(Entry::of(alloc, entry.entry())?)?;
+        let mut copy = Entries::with_capacity(alloc, self.len())?;
+        copy.append(self)?;
+        Ok(copy)
+    }
+
+    /// Puts the entries of another list at the end, shared with it. Without memory some of them may stand
+    /// there.
+    pub fn append(&mut self, other: &Entries) -> Result<(), NoMemory>
+        ensures { OnOk result (self.new ≡ self.old ++ other.now) }
+    {
+        self.entries.reserve(other.len())?;
+        for entry in other.as_slice() {
+            self.push(entry.share()?)?;
         }
-        Ok(Entries { entries })
+        Ok(())
     }
 
     /// Puts an entry at the end; without memory the list stays as it was.

@@ -1,0 +1,34 @@
+-- An entry, as its parts in one run of bytes.
+use Rattle.std.specs.Prelude.{ℕ, ◌≤◌, ◌-◌, List, take, drop, length}
+use Rattle.tablet_model.specs.Cell.{Cell}
+use Rattle.cell_key.specs.declared.entry_block.EntryBlock.TheInside.{Inside}
+
+-- the bytes from one place up to another
+abbrev pub between : ℕ → ℕ → List ℕ → List ℕ
+between from to bytes = take (to - from) (drop from bytes)
+
+-- the entry whose parts end at these places; the value is what is left
+abbrev pub packed_cell : Inside → Cell
+packed_cell b = record {
+  key = record {
+    row = take b.row b.bytes.items;
+    family = between b.row b.family b.bytes.items;
+    qualifier = between b.family b.qualifier b.bytes.items;
+    visibility = between b.qualifier b.visibility b.bytes.items;
+    time = b.time;
+    deleted = b.deleted;
+  };
+  value = drop b.visibility b.bytes.items;
+}
+
+-- the ends are in order, and the parts within bounds
+pub record IsPacked (b : Inside) : Type 0 where
+  pub order_row : b.row ≤ b.family
+  pub order_family : b.family ≤ b.qualifier
+  pub order_qualifier : b.qualifier ≤ b.visibility
+  pub order_visibility : b.visibility ≤ length b.bytes.items
+  pub row_some : 1 ≤ b.row
+  pub row_bound : b.row ≤ 1024
+  pub family_bound : b.family - b.row ≤ 1024
+  pub qualifier_bound : b.qualifier - b.family ≤ 1024
+  pub visibility_bound : b.visibility - b.qualifier ≤ 1024
