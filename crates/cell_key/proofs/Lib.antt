@@ -2,3 +2,4 @@ pub mod Spelling
 pub mod Sorting
 pub mod Numbering
 pub mod SameColumn
+pub mod Runs

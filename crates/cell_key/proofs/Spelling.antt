@@ -58,7 +58,7 @@ spelled_on (c ∷ bs) at b more e =
     ap (λ s. read_on at s (unescape_from bs (at + 1))) e
     ∙ ap (put b) (passed bs (at + 1) more (omega arith) ∙ ap (λ n. unescape_from (drop more bs) n 0) (omega arith) ∙ ap (λ t. unescape_from t (at + (1 + more)) 0) (sym d))
 
-put_all-put : (bs : List ℕ) (b : ℕ) (r : Result (List ℕ) ℕ) → put_all (bs ++ b ∷ []) r ≡ put_all bs (put b r)
+pub put_all-put : (bs : List ℕ) (b : ℕ) (r : Result (List ℕ) ℕ) → put_all (bs ++ b ∷ []) r ≡ put_all bs (put b r)
 put_all-put bs b (Ok rest) = ap Ok (append_assoc bs (b ∷ []) rest)
 put_all-put bs b (Err at) = refl
 

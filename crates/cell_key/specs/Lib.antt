@@ -10,3 +10,4 @@ pub mod FileNumbers
 pub mod Mutations
 pub mod Escape
 pub mod Unescape
+pub mod Runs

@@ -28,6 +28,14 @@ impl<T: Drop> Items<T> {
         }
     }
 
+    /// The empty list, with places for some elements.
+    pub fn with_capacity(alloc: Global, capacity: usize) -> Result<Items<T>, NoMemory>
+        ensures { IfOk result (λ list. list ≡ []) }
+    {
+        let items = Vec::with_capacity(alloc, capacity)?;
+        Ok(Items { items })
+    }
+
     /// Puts an element at the end; without memory the list stays as it was.
     pub fn push(&mut self, element: T) -> Result<(), NoMemory>
         ensures { self.new ≡ (if is_ok result then self.old ++ element ∷ [] else self.old) }

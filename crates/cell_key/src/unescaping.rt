@@ -1,5 +1,6 @@
-ghost use Rattle.std.specs.Prelude.{◌≡◌};
+ghost use Rattle.std.specs.Prelude.{◌≡◌, ◌≤◌, ◌++◌, take, length, not, position, IfOk};
 ghost use Rattle.cell_key.specs.Escape.{behind_backslash, pair_byte, spelled, unescape_of};
+ghost use Rattle.cell_key.specs.Runs.{is_plain, plain_run};
 ghost use Rattle.cell_key.specs.Unescape.{Unescapes};
 
 use crate::items::ByteText;
@@ -33,16 +34,50 @@ impl From<NoMemory> for TextError {
 pub fn unescape(alloc: Global, text: &[u8]) -> Result<ByteText, TextError>
     ensures { Unescapes (unescape_of text.now) result }
 {
-    let mut bytes = ByteText::new(alloc);
-    let mut at = 0;
+    let mut bytes = ByteText::with_capacity(alloc, text.len())?;
+    let mut at = append_run(&mut bytes, text)?;
     while at < text.len() {
         let Some((byte, more)) = spelled(&text[at..]) else {
             return Err(TextError::Fault { at });
         };
         bytes.push(byte)?;
         at += 1 + more;
+        at += append_run(&mut bytes, &text[at..])?;
     }
     Ok(bytes)
+}
+
+/// Appends the plain bytes that stand first, and answers how many there are.
+fn append_run(bytes: &mut ByteText, text: &[u8]) -> Result<usize, NoMemory>
+    ensures run { IfOk result (λ run. run ≡ plain_run text.now) }
+    ensures within { IfOk result (λ run. run ≤ length text.now) }
+    ensures bytes { IfOk result (λ run. bytes.new ≡ bytes.old ++ take run text.now) }
+{
+    let run = plain_run(text);
+    bytes.append(&text[..run])?;
+    Ok(run)
+}
+
+/// How many plain bytes stand first.
+fn plain_run(text: &[u8]) -> usize
+    ensures run { result ≡ plain_run text.now }
+    ensures within { result ≤ length text.now }
+{
+    first_special(text).unwrap_or(text.len())
+}
+
+/// Where the first byte stands that is not plain.
+fn first_special(text: &[u8]) -> Option<usize>
+    ensures { result ≡ position (λ b. not (is_plain b)) text.now }
+{
+    text.iter().position(|byte| !is_plain(*byte))
+}
+
+/// Whether a byte is read as itself wherever it stands first.
+fn is_plain(byte: u8) -> bool
+    ensures { result ≡ is_plain byte }
+{
+    byte >= b'!' && byte != b'\\' && byte != 0x7F
 }
 
 /// The byte that stands first, and how many more bytes its spelling has.
