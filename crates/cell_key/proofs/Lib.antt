@@ -1,5 +1,6 @@
 pub mod Spelling
 pub mod Sorting
 pub mod Numbering
+pub mod Gathered
 pub mod SameColumn
 pub mod Runs

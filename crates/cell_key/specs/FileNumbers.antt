@@ -15,3 +15,8 @@ has_number ids id = list_any (eqb id) ids
 unfoldable pub with_number : ℕ → List ℕ → List ℕ
 with_number id [] = id ∷ []
 with_number id (i ∷ is) = cond (nat_lt i id) (i ∷ with_number id is) (cond (eqb i id) (i ∷ is) (id ∷ i ∷ is))
+
+-- numbers put to others in turn
+abbrev pub with_numbers : List ℕ → List ℕ → List ℕ
+with_numbers [] ids = ids
+with_numbers (id ∷ list) ids = with_numbers list (with_number id ids)

@@ -55,7 +55,7 @@ impl Items<ColumnName> {
     pub fn copy(&self, alloc: Global) -> Result<Columns, NoMemory>
         ensures { IfOk result (λ columns. columns ≡ self.now) }
     {
-        let mut columns = Columns::new(alloc);
+        let mut columns = Columns::with_capacity(alloc, self.len())?;
         for name in self.as_slice() {
             columns.push(name.copy(alloc)?)?;
         }

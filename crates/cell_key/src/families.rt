@@ -82,7 +82,7 @@ impl Items<ByteText> {
 fn copied_names(alloc: Global, names: &[ByteText]) -> Result<Names, NoMemory>
     ensures { IfOk result (λ list. list ≡ names.now) }
 {
-    let mut list = Names::new(alloc);
+    let mut list = Names::with_capacity(alloc, names.len())?;
     for name in names {
         list.push(ByteText::of(alloc, name.bytes())?)?;
     }

@@ -1,6 +1,6 @@
 ghost use Rattle.std.specs.Prelude.{◌≡◌, ◌<◌, [], ◌∷◌, ◌++◌, Some, length, slice_get, is_ok, if◌then◌else◌, IfOk, OnOk};
 ghost use Rattle.std.specs.List.{AllByRecursion};
-ghost use Rattle.cell_key.specs.FileNumbers.{has_number, with_number};
+ghost use Rattle.cell_key.specs.FileNumbers.{has_number, with_number, with_numbers};
 
 use crate::no_memory::NoMemory;
 use std::alloc::Global;
@@ -31,6 +31,16 @@ impl FileIds {
         FileIds {
             ids: Vec::new(alloc),
         }
+    }
+
+    /// These numbers, in any order; one that stands there more than once counts once.
+    pub fn of(alloc: Global, numbers: &[u64]) -> Result<FileIds, NoMemory>
+        ensures { IfOk result (λ ids. ids ≡ with_numbers numbers.now []) }
+    {
+        let mut ids = Vec::from_slice(alloc, numbers)?;
+        ids.sort_unstable();
+        ids.dedup();
+        Ok(FileIds { ids })
     }
 
     /// Puts a number at its place, unless it is there.

@@ -80,7 +80,7 @@ impl Mutation {
 fn copied_updates(alloc: Global, updates: &[Update]) -> Result<Updates, NoMemory>
     ensures { IfOk result (λ list. list ≡ updates.now) }
 {
-    let mut list = Updates::new(alloc);
+    let mut list = Updates::with_capacity(alloc, updates.len())?;
     for update in updates {
         list.push(update.copy(alloc)?)?;
     }
