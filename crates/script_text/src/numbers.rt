@@ -10,7 +10,7 @@ ghost use Rattle.script_text.specs.Words.{words_of};
 
 use crate::line::LineError;
 use crate::words::next_word;
-use cell_key::FileIds;
+use cell_key::{FileIds, Items};
 use std::alloc::Global;
 use std::str;
 
@@ -104,15 +104,16 @@ fn parse_file(word: &[u8]) -> Result<u64, LineError>
 }
 
 /// The files that the words of a text name. One that is named twice counts once.
+#[tactic(auto, using(cell_key::proofs::Gathered::onto_push))]
 pub fn parse_files(alloc: Global, text: &[u8]) -> Result<FileIds, LineError>
     ensures { Gives (λ ids. ids) (files_onto [] (words_of text.now)) result }
 {
-    let mut files = FileIds::new(alloc);
+    let mut files = Items::new(alloc);
     let mut rest = text;
     while let Some((word, behind)) = next_word(rest) {
-        let file = parse_file(word)?;
-        files.insert(file)?;
+        files.push(parse_file(word)?)?;
         rest = behind;
     }
-    Ok(files)
+    let ids = FileIds::of(alloc, files.as_slice())?;
+    Ok(ids)
 }
