@@ -1,1 +1,5 @@
+pub mod Elements
+pub mod FirstTops
+pub mod Moves
 pub mod Partition
+pub mod SoughtSums

@@ -1,3 +1,4 @@
 pub mod Copies
 pub mod VecRest
 pub mod Props
+pub mod Several

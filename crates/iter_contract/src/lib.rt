@@ -2,8 +2,11 @@
 #![tactic(auto)]
 
 mod search;
+mod several;
 mod source;
+mod tops;
 mod vec_source;
 
+pub use several::{copies, first_top, seek_all, step_first};
 pub use source::SortedSource;
 pub use vec_source::VecSource;
