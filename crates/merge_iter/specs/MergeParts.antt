@@ -1,6 +1,6 @@
 -- What a `MergeIter` has, by what its sources have. All of this is this project's own.
 use Rattle.std.specs.Prelude.{◌≡◌, Bool, true, cond, List, [], ◌∷◌, map}
-use Rattle.std.specs.List.{AllByRecursion, flat_map, list_all}
+use Rattle.std.specs.List.{AllByRecursion, flat_map}
 use Rattle.tablet_model.specs.Cell.{Cell}
 use Rattle.tablet_model.specs.Order.{above}
 use Rattle.tablet_model.specs.Sorted.{Ascends}
@@ -9,14 +9,10 @@ use Rattle.tablet_model.specs.Bounds.{IsEntry, AreEntries}
 use Rattle.tablet_model.proofs.Merges.{all_append, all_sorted}
 use Rattle.tablet_model.proofs.Orders.{above_exact}
 use Rattle.tablet_model.proofs.Sums.{Ascends-sorted}
-use Rattle.merge_iter.specs.Tops.{AreInOrder}
+use Rattle.iter_contract.specs.Several.{all_steady, AreOrdered}
 use Rattle.merge_iter.specs.declared.merge.MergeIter.{MergeIter}
 
 module _ {S : Type 0} where
-  -- whether all of these sources are steady
-  abbrev pub all_steady : (S → Bool) → List S → Bool
-  all_steady steady sources = list_all (λ b. b) (map steady sources)
-
   -- the sum of the sources' entries
   abbrev pub merge_cells : (S → List Cell) → MergeIter S → List Cell
   merge_cells cells it = sum_all (map cells it.sources.items)
@@ -29,10 +25,10 @@ module _ {S : Type 0} where
   abbrev pub merge_steady : (S → Bool) → MergeIter S → Bool
   merge_steady steady it = all_steady steady it.sources.items
 
-  -- the parts of each source fit together, and once they were sought, what is left of each is in order
+  -- the parts of each source fit together, and once they were sought, the sources stand in the order of their tops
   abbrev pub merge_valid : (S → List Cell) → (S → Type 0) → MergeIter S → Type 0
   merge_valid rest valid it =
-      AllByRecursion valid it.sources.items × (it.is_sought ≡ true → AreInOrder (map rest it.sources.items))
+      AllByRecursion valid it.sources.items × (it.is_sought ≡ true → AreOrdered (map rest it.sources.items))
 
   -- a sum is in order
   pub merge_sorted : (cells : S → List Cell) → (it : MergeIter S) → Ascends above (merge_cells cells it)

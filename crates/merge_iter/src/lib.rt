@@ -2,7 +2,5 @@
 #![tactic(auto)]
 
 mod merge;
-mod sources;
-mod tops;
 
 pub use merge::MergeIter;

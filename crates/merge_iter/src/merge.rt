@@ -1,12 +1,11 @@
-use crate::sources::{copies, seek_all};
-use crate::tops::{least_top, next_least};
 use cell_key::{EntryRef, NoMemory, Range};
-use iter_contract::SortedSource;
+use iter_contract::{SortedSource, copies, first_top, seek_all, step_first};
 use std::alloc::Global;
 
 /// The entries of any number of sources in one order, each as often as it stands in them (Accumulo's `MultiIterator`).
 #[derive(Drop)]
 pub struct MergeIter<S> {
+    /// In the order of their tops, once they were sought.
     sources: Vec<S>,
     /// Whether the last seek or step came to its end.
     is_sought: bool,
@@ -17,7 +16,8 @@ impl<S: SortedSource> MergeIter<S> {
     ghost use Rattle.std.specs.List.{AllByRecursion};
     ghost use Rattle.tablet_model.specs.Sum.{sum_all};
     ghost use Rattle.iter_contract.specs.Copies.{IsCopy};
-    ghost use Rattle.merge_iter.specs.MergeParts.{all_steady, merge_cells, merge_rest, merge_steady, merge_valid};
+    ghost use Rattle.iter_contract.specs.Several.{all_steady};
+    ghost use Rattle.merge_iter.specs.MergeParts.{merge_cells, merge_rest, merge_steady, merge_valid};
 
     /// An iterator over sources, each of which may have been sought or not. Of no sources it has no entries.
     pub fn new(_alloc: Global, sources: Vec<S>) -> Result<MergeIter<S>, NoMemory>
@@ -56,7 +56,7 @@ impl<S: SortedSource> SortedSource for MergeIter<S> {
 
     fn top(&self) -> Option<EntryRef<'_>> {
         if self.is_sought {
-            least_top(&self.sources)
+            first_top(&self.sources)
         } else {
             None
         }
@@ -64,7 +64,7 @@ impl<S: SortedSource> SortedSource for MergeIter<S> {
 
     fn next(&mut self) -> Result<(), NoMemory> {
         self.is_sought = false;
-        next_least(&mut self.sources)?;
+        step_first(&mut self.sources)?;
         self.is_sought = true;
         Ok(())
     }

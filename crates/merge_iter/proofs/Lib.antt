@@ -1,3 +1,0 @@
-pub mod Elements
-pub mod LeastTops
-pub mod SoughtSums
