@@ -8,7 +8,7 @@ use Rattle.tablet_model.specs.Order.{above}
 use Rattle.tablet_model.specs.Sorted.{sorted}
 use Rattle.tablet_model.specs.Store.{all_of, cells_of, frozen_of, parts_of}
 use Rattle.tablet_model.specs.Sum.{sum_all}
-use Rattle.merge_iter.specs.MergeParts.{all_steady}
+use Rattle.iter_contract.specs.Several.{all_steady}
 use Rattle.iter_stack.specs.declared.part_cursor.PartCursor.{PartCursor}
 use Rattle.tablet_view.specs.Snapshot.{Snapshot, entries_in, store_of}
 
