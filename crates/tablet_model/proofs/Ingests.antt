@@ -1,11 +1,12 @@
 -- What the checks of mutations say.
-use Rattle.std.proofs.Common.{◌≡◌, ◌||◌, ℕ, zero, suc, ◌+◌, ◌≤◌, ℤ, Bool, true, false, cond, List, [], ◌∷◌, map, length, nat_lt, Option, Some, None, unwrap_or, option_map, refl, subst, arith}
+use Rattle.std.proofs.Common.{◌≡◌, ◌||◌, ℕ, zero, suc, ◌+◌, ◌<◌, ◌≤◌, ℤ, Bool, true, false, cond, List, [], ◌∷◌, map, length, nat_lt, Option, Some, None, unwrap_or, option_map, refl, subst, arith}
 use Rattle.std.specs.Prelude.{slice_get}
 use Rattle.std.specs.Option.{option_or}
 use Rattle.std.specs.List.{AllByRecursion}
 use Rattle.tablet_model.specs.Bounds.{KeyBounds, IsTime, IsEntry, AreEntries}
 use Rattle.tablet_model.specs.History.{Change, RowChange, entry_of, entries_of}
-use Rattle.tablet_model.specs.Ingest.{bound, row_part, updates_part, family_part, qualifier_part, visibility_part, value_part, too_long, first_too_long, out_of_bounds, first_where}
+use Rattle.tablet_model.specs.Ingest.{bound, row_part, updates_part, family_part, qualifier_part, visibility_part, value_part, too_long, first_too_long, out_of_bounds, first_where, first_twice, duplicate, delete_here, time_here, bad_value, full_log, is_mistimed, is_refused_delete, is_unread, ingest}
+use Rattle.tablet_model.specs.Rules.{Rules}
 use Rattle.tablet_model.proofs.Sums.{all_weaker}
 use Rattle.tablet_model.proofs.Combines.{all_both}
 
@@ -87,6 +88,26 @@ inside m h =
       few_changes = not_less _ _ t.1;
       changes = all_weaker (λ u. too_long u ≡ None) IsShortEnough short_enough m.changes (none_long 1 m.changes n.1);
     }
+
+-- a log that takes a mutation in is not full
+pub room_left : (c : Rules) (n : ℕ) (m : RowChange) → ingest c n m ≡ None → n < 524288
+unfolding ingest
+room_left c n m h =
+    let full = cond (nat_lt n 524288) None (Some full_log) in
+    let unread = option_or (option_map bad_value (first_where (is_unread c (n + 1) m) 1 m.changes)) full in
+    let mistimed = option_or (option_map time_here (first_where (is_mistimed c (n + 1) m) 1 m.changes)) unread in
+    let deleting = option_or (option_map delete_here (first_where (is_refused_delete c (n + 1) m) 1 m.changes)) mistimed in
+    let twice = option_or (option_map duplicate (first_twice [] 1 m.changes)) deleting in
+    below (nat_lt n 524288) refl
+    (none_second (option_map bad_value (first_where (is_unread c (n + 1) m) 1 m.changes)) full
+    (none_second (option_map time_here (first_where (is_mistimed c (n + 1) m) 1 m.changes)) unread
+    (none_second (option_map delete_here (first_where (is_refused_delete c (n + 1) m) 1 m.changes)) mistimed
+    (none_second (option_map duplicate (first_twice [] 1 m.changes)) deleting
+    (none_second (out_of_bounds m) twice h)))))
+  where
+    below : (b : Bool) → nat_lt n 524288 ≡ b → cond b None (Some full_log) ≡ None → n < 524288
+    below true e h = grind arith
+    below false e h = absurd (some_none full_log h)
 
 -- the bounds of the keys of its changes
 pub bounds_one : (m : RowChange) → IsInside m → (u : Change) → IsShortEnough u → KeyBounds m.row u.family u.qualifier u.visibility

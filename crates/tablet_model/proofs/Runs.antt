@@ -42,3 +42,9 @@ module _ {X : Type 0} (size : X → ℕ) where
   halving_more [] z h some half = (some, omega arith, tt)
   halving_more (x ∷ []) z h some half = (h.0, half 0 refl, (some, omega arith, tt))
   halving_more (x ∷ y ∷ ys) z h some half = (h.0, h.1, halving_more (y ∷ ys) z h.2 some (λ i e. half (suc i) (omega (arith, e))))
+
+  -- one at most half as long as the last, behind it
+  pub halving_pair : (xs : List X) (y z : X) → AreHalving size (xs ++ y ∷ []) → 1 ≤ size z → 2 * size z ≤ size y → AreHalving size ((xs ++ y ∷ []) ++ z ∷ [])
+  halving_pair [] y z h some half = (h.0, half, (some, omega arith, tt))
+  halving_pair (x ∷ []) y z h some half = (h.0, h.1, halving_pair [] y z h.2 some half)
+  halving_pair (x ∷ x' ∷ xs) y z h some half = (h.0, h.1, halving_pair (x' ∷ xs) y z h.2 some half)
