@@ -1,1 +1,3 @@
 pub mod CursorParts
+pub mod MapRuns
+pub mod Props

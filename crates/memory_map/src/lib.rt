@@ -3,6 +3,7 @@
 
 mod mem_cursor;
 mod mem_map;
+mod runs;
 mod updates;
 
 pub use mem_cursor::MemCursor;
