@@ -72,6 +72,13 @@ impl<T: Drop> Items<T> {
     {
         self.items.as_slice()
     }
+
+    /// Takes all elements out; it keeps its room.
+    pub fn clear(&mut self)
+        ensures { self.new ≡ [] }
+    {
+        self.items.clear();
+    }
 }
 
 /// A list of bytes.
