@@ -18,3 +18,15 @@ ReadsAll max left after (Err NoMemory) = (n : ℕ) × (n ≤ max) × Took n left
 -- a prefix of the bytes was appended to what a sink had taken, where it tells it
 abbrev pub IsFrontTaken : List ℕ → Option (List ℕ) → Option (List ℕ) → Type 0
 IsFrontTaken bytes before after = IfSome before (λ taken. (n : ℕ) × (n ≤ length bytes) × (after ≡ Some (taken ++ take n bytes)))
+
+-- the bytes were appended to what a sink had taken, where it tells it
+abbrev pub IsTaken : List ℕ → Option (List ℕ) → Option (List ℕ) → Type 0
+IsTaken bytes before after = IfSome before (λ taken. after ≡ Some (taken ++ bytes))
+
+-- a front of the bytes was appended to what a sink had taken, where it tells it, and the others stand in a text
+pub record IsSent (bytes : List ℕ) (before after : Option (List ℕ)) (text : List ℕ) : Type 0 where
+  pub parted : IfSome before (λ taken. (front : List ℕ) × (bytes ≡ front ++ text) × (after ≡ Some (taken ++ front)))
+
+-- how many bytes a text has at the least that is sent before the end
+abbrev pub piece_size : ℕ
+piece_size = 65536
