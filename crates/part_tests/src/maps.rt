@@ -95,3 +95,29 @@ fn a_new_map_is_empty(rt: HostRuntime) -> Result<(), NoMemory> {
     assert!(rt; is_empty(rt.alloc())?);
     Ok(())
 }
+
+/// A map with a put in a row as well.
+#[tactic(auto, unfolding(tablet_model::specs::Ingest::out_of_bounds, tablet_model::specs::Ingest::first_too_long))]
+fn with_put(alloc: Global, map: &MemMap, row: &[u8]) -> Result<MemMap, NoMemory>
+    requires { length row.now ≡ 1 }
+{
+    let mut updates = Updates::new(alloc);
+    updates.push(update(alloc, b"b", false)?)?;
+    let row = ByteText::of(alloc, row)?;
+    map.insert(alloc, &Mutation { row, updates }, 1)
+}
+
+/// Whether maps of no entry, one, two and three have these runs.
+fn have_runs(alloc: Global, runs: [u32; 4]) -> Result<bool, NoMemory> {
+    let none = MemMap::empty(alloc)?;
+    let one = with_put(alloc, &none, b"r")?;
+    let two = with_put(alloc, &one, b"s")?;
+    let three = with_put(alloc, &two, b"a")?;
+    Ok([none.runs(), one.runs(), two.runs(), three.runs()] == runs && three.count() == 3)
+}
+
+#[test]
+fn runs_of_a_map_join(rt: HostRuntime) -> Result<(), NoMemory> {
+    assert!(rt; have_runs(rt.alloc(), [0, 1, 1, 2])?);
+    Ok(())
+}

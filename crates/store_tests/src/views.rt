@@ -153,6 +153,21 @@ fn longer_logs_begin_with_shorter_ones(rt: HostRuntime) -> Result<(), Fail> {
     Ok(())
 }
 
+/// Whether views of no mutation, one, two and three have these runs.
+fn have_log_runs(alloc: Global, runs: [u32; 4]) -> Result<bool, Fail> {
+    let none = opened(alloc)?;
+    let one = grown(alloc, &none, b'r', &[(b's', Some(b'1'))])?;
+    let two = grown(alloc, &one, b's', &[(b's', Some(b'1'))])?;
+    let three = grown(alloc, &two, b'r', &[(b's', Some(b'1'))])?;
+    Ok([none.log_runs(), one.log_runs(), two.log_runs(), three.log_runs()] == runs)
+}
+
+#[test]
+fn runs_of_a_log_join(rt: HostRuntime) -> Result<(), Fail> {
+    assert!(rt; have_log_runs(rt.alloc(), [0, 1, 1, 2])?);
+    Ok(())
+}
+
 #[test]
 fn a_frozen_view_has_the_same_log(rt: HostRuntime) -> Result<(), Fail> {
     let view = grown_twice(rt.alloc())?;

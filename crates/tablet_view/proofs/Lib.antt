@@ -6,3 +6,4 @@ pub mod OtherFiles
 pub mod Scans
 pub mod Parts
 pub mod Inputs
+pub mod RunLists

@@ -1,6 +1,7 @@
 -- Which logs begin with which.
 use Rattle.std.proofs.Common.{◌≡◌, ℕ, ◌<◌, ◌≤◌, List, [], ◌∷◌, ◌++◌, map, length, take, drop, get_or, refl, sym, ap, ◌∙◌, arith, append-nil, append_assoc, length-append}
-use Rattle.std.proofs.lemmas.List.{get_or-map, get_or_append_left, length-map, map-append, take-append-drop, take_all}
+use Rattle.std.proofs.Math.Seq.{take-append_seam, take-length}
+use Rattle.std.proofs.lemmas.List.{map-append, take-append-drop}
 use Rattle.tablet_model.specs.History.{Change, RowChange}
 use Rattle.cell_key.specs.Mutations.{change_of, row_change_of}
 use Rattle.cell_key.specs.declared.mutation.Mutation.{Mutation}
@@ -21,10 +22,6 @@ same_updates (u ∷ us) = ap (λ l. u ∷ l) (same_updates us)
 same_mutation : (m : Mutation) → mutation_of (row_change_of m) ≡ m
 same_mutation m = ap (λ l. record { row = m.row; updates = l }) (same_updates m.updates)
 
--- mutations of the same changes are the same
-pub changes_tell : (m n : Mutation) → row_change_of m ≡ row_change_of n → m ≡ n
-changes_tell m n h = sym (same_mutation m) ∙ ap mutation_of h ∙ same_mutation n
-
 pub begins_refl : (l : List RowChange) → BeginsWith l l
 begins_refl l = record { rest = []; whole = sym (append-nil l) }
 
@@ -34,27 +31,20 @@ begins_trans l m n a b = record { rest = b.rest ++ a.rest; whole = a.whole ∙ (
 pub begins_length : (l m : List RowChange) → BeginsWith l m → length m ≤ length l
 begins_length l m b = rw (b.whole, length-append m b.rest) (omega arith)
 
-module _ {X : Type 0} (f : X → Mutation) where
-  -- a log begins with another whose mutations stand first in it
-  pub begins_taken : (xs ys : List X) (i : ℕ) → length ys ≤ i → map f (take i xs) ≡ map f (take i ys) → BeginsWith (map row_change_of (map f xs)) (map row_change_of (map f ys))
-  begins_taken xs ys i le h = record {
-    rest = map row_change_of (map f (drop i xs));
-    whole = ap (λ l. map row_change_of (map f l)) (sym (take-append-drop i xs))
-        ∙ ap (map row_change_of) (map-append f (take i xs) (drop i xs))
-        ∙ map-append row_change_of (map f (take i xs)) (map f (drop i xs))
-        ∙ ap (λ l. map row_change_of l ++ map row_change_of (map f (drop i xs))) (h ∙ ap (map f) (take_all i ys le));
-  }
+same_mutations : (ms : List Mutation) → map mutation_of (map row_change_of ms) ≡ ms
+same_mutations [] = refl
+same_mutations (m ∷ ms) = ap (λ n. n ∷ map mutation_of (map row_change_of ms)) (same_mutation m) ∙ ap (λ l. m ∷ l) (same_mutations ms)
 
-  -- and then one mutation stands at each place of the other in both
-  pub begins_same : (xs ys : List X) (i : ℕ) (x y : X) → i < length xs → i < length ys → x ≡ get_or xs i x → y ≡ get_or ys i y
-      → BeginsWith (map row_change_of (map f xs)) (map row_change_of (map f ys)) → f x ≡ f y
-  begins_same xs ys i x y lx ly ex ey b = changes_tell (f x) (f y)
-      (ap g ex ∙ sym (at xs x lx) ∙ ap (λ l. get_or l i (g x)) b.whole
-      ∙ get_or_append_left (map row_change_of (map f ys)) b.rest (g x) i (rw (length-map, length-map) ly)
-      ∙ at ys y ly ∙ ap g (sym ey))
-    where
-      g : X → RowChange
-      g z = row_change_of (f z)
+-- a log begins with another whose mutations stand first in it
+pub begins_first : (ms ns : List Mutation) → take (length ns) ms ≡ take (length ns) ns → BeginsWith (map row_change_of ms) (map row_change_of ns)
+begins_first ms ns h = record {
+  rest = map row_change_of (drop (length ns) ms);
+  whole = ap (map row_change_of) (sym (take-append-drop (length ns) ms) ∙ ap (λ l. l ++ drop (length ns) ms) (h ∙ take-length ns)) ∙ map-append row_change_of ns (drop (length ns) ms);
+}
 
-      at : (zs : List X) (z : X) → i < length zs → get_or (map row_change_of (map f zs)) i (g x) ≡ g (get_or zs i z)
-      at zs z lt = get_or-map row_change_of (map f zs) i (f z) (g x) (rw length-map lt) ∙ ap row_change_of (get_or-map f zs i z (f z) lt)
+-- and only with such
+pub first_begins : (ms ns : List Mutation) → BeginsWith (map row_change_of ms) (map row_change_of ns) → take (length ns) ms ≡ take (length ns) ns
+first_begins ms ns b =
+    let more = map mutation_of b.rest in
+    let whole = sym (same_mutations ms) ∙ ap (map mutation_of) b.whole ∙ map-append mutation_of (map row_change_of ns) b.rest ∙ ap (λ l. l ++ more) (same_mutations ns) in
+    ap (take (length ns)) whole ∙ take-append_seam ns more ∙ sym (take-length ns)

@@ -5,3 +5,5 @@ pub mod Sources
 pub mod ViewParts
 pub mod FamilyParts
 pub mod FileParts
+pub mod Ropes
+pub mod LogParts

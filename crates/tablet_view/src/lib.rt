@@ -5,6 +5,8 @@ mod apply_error;
 mod family_iter;
 mod files;
 mod log;
+mod rope;
+mod run;
 mod view;
 mod view_source;
 

@@ -1,28 +1,34 @@
-ghost use Rattle.std.specs.Prelude.{◌≡◌, ◌↔◌, IsTrue, [], ◌∷◌, ◌++◌, length, map, IfOk};
-ghost use Rattle.std.specs.Arc.{arc_value};
+ghost use Rattle.std.specs.Prelude.{◌≡◌, ◌↔◌, ◌<◌, ◌≤◌, ◌+◌, ◌^◌, IsTrue, Some, [], ◌∷◌, ◌++◌, length, slice_get, take, IfOk, OnOk};
 ghost use Rattle.cell_key.specs.Mutations.{row_change_of};
 ghost use Rattle.tablet_view.specs.Extending.{BeginsWith};
+ghost use Rattle.tablet_view.specs.LogParts.{all_in};
+ghost use Rattle.tablet_model.specs.Runs.{AreHalving};
 
+use crate::run::Run;
 use cell_key::{Mutation, NoMemory};
 use std::alloc::Global;
 use std::marker::Model;
-use std::sync::Arc;
 
 /// The mutations that came in, in order. A longer log shares them with the one that it continues.
 #[derive(Drop)]
 pub(crate) struct Log {
-    mutations: Vec<Arc<Mutation>>,
+    /// Each run is at least twice as long as the next.
+    runs: Vec<Run>,
+    count: usize,
 }
 
 impl Model for Log {
-    ghost use Rattle.std.specs.Prelude.{List, map};
-    ghost use Rattle.std.specs.Arc.{arc_value};
+    ghost use Rattle.std.specs.Prelude.{◌≡◌, ◌<◌, ◌^◌, List, map, length};
     ghost use Rattle.tablet_model.specs.History.{RowChange};
     ghost use Rattle.cell_key.specs.Mutations.{row_change_of};
+    ghost use Rattle.tablet_view.specs.LogParts.{all_in};
+    ghost use Rattle.tablet_model.specs.Runs.{AreHalving};
 
     ghost Value = { List RowChange };
 
-    ghost view = { λ l. map row_change_of (map (λ m. arc_value m) l.mutations.items) };
+    ghost view = { λ l. map row_change_of (all_in l.runs.items) };
+
+    ghost invariant = { λ l. AreHalving (λ run. length run) l.runs.items × (l.count ≡ length (all_in l.runs.items)) × (l.count < 2 ^ 64) };
 }
 
 impl Log {
@@ -31,55 +37,104 @@ impl Log {
         ensures { result ≡ [] }
     {
         Log {
-            mutations: Vec::new(alloc),
+            runs: Vec::new(alloc),
+            count: 0,
         }
     }
 
-    /// The log with a mutation at its end.
+    /// The log with a mutation at its end. It takes memory for a copy of the mutation, and for the log's runs.
     pub(crate) fn with(&self, alloc: Global, mutation: &Mutation) -> Result<Log, NoMemory>
+        requires { length self.now + 1 < 2 ^ 64 }
         ensures { IfOk result (λ log. log ≡ self.now ++ row_change_of mutation.now ∷ []) }
     {
-        let mut mutations = shared(alloc, &self.mutations)?;
-        mutations.push(Arc::new(alloc, mutation.copy(alloc)?)?)?;
-        Ok(Log { mutations })
+        let mut runs = shared(alloc, &self.runs)?;
+        let last = Run::of(alloc, mutation.copy(alloc)?)?;
+        push_joined(alloc, &mut runs, last)?;
+        Ok(Log {
+            runs,
+            count: self.count + 1,
+        })
     }
 
-    /// How many mutations there are.
+    /// How many mutations there are. It takes no memory.
     pub(crate) fn len(&self) -> usize
         ensures { result ≡ length self.now }
     {
-        self.mutations.len()
+        self.count
+    }
+
+    /// The number of runs. It takes no memory.
+    pub(crate) fn runs(&self) -> u32
+        ensures { 2 ^ result ≤ length self.now + 1 }
+    {
+        self.runs.len() as u32
     }
 
     /// Whether the other log's mutations stand at the beginning of this one. It takes no memory.
     pub(crate) fn begins_with(&self, other: &Log) -> bool
         ensures { IsTrue result ↔ BeginsWith self.now other.now }
     {
-        begins_with(&self.mutations, &other.mutations)
+        self.count >= other.count && begin_alike(&self.runs, &other.runs, other.count)
     }
 }
 
-fn shared(alloc: Global, mutations: &[Arc<Mutation>]) -> Result<Vec<Arc<Mutation>>, NoMemory>
-    ensures { IfOk result (λ list. map (λ m. arc_value m) list.items ≡ map (λ m. arc_value m) mutations.now) }
+/// The same runs.
+fn shared(alloc: Global, runs: &[Run]) -> Result<Vec<Run>, NoMemory>
+    ensures { IfOk result (λ list. list.items ≡ runs.now) }
 {
-    let mut list = Vec::new(alloc);
-    for mutation in mutations {
-        list.push(Arc::try_clone(mutation)?)?;
+    let mut list = Vec::with_capacity(alloc, runs.len() + 1)?;
+    for run in runs {
+        list.push(run.share()?)?;
     }
     Ok(list)
 }
 
-fn begins_with(mutations: &[Arc<Mutation>], earlier: &[Arc<Mutation>]) -> bool
-    ensures { IsTrue result ↔ BeginsWith (map row_change_of (map (λ m. arc_value m) mutations.now))
-        (map row_change_of (map (λ m. arc_value m) earlier.now)) }
+/// Puts a run behind others, joined with those before it that are less than twice as long.
+fn push_joined(alloc: Global, runs: &mut Vec<Run>, last: Run) -> Result<(), NoMemory>
+    requires halving { AreHalving (λ run. length run) runs.old.items }
+    requires some { 1 ≤ length last }
+    requires fits { length (all_in runs.old.items) + length last < 2 ^ 64 }
+    ensures mutations { OnOk result (all_in runs.new.items ≡ all_in runs.old.items ++ last) }
+    ensures halving { OnOk result (AreHalving (λ run. length run) runs.new.items) }
 {
-    if mutations.len() < earlier.len() {
-        return false;
+    let mut last = last;
+    while let Some(before) = runs.pop() {
+        if before.len() / 2 >= last.len() {
+            runs.push(before)?;
+            runs.push(last)?;
+            return Ok(());
+        }
+        last = before.join(alloc, last)?;
     }
-    for i in 0..earlier.len() {
-        if !mutations[i].same(&earlier[i]) {
+    runs.push(last)?;
+    Ok(())
+}
+
+/// Whether the first mutations of two lists of runs are the same, so many of them.
+fn begin_alike(runs: &[Run], others: &[Run], count: usize) -> bool
+    requires here { count ≤ length (all_in runs.now) }
+    requires there { count ≤ length (all_in others.now) }
+    ensures { IsTrue result ↔ (take count (all_in runs.now) ≡ take count (all_in others.now)) }
+{
+    for i in 0..count {
+        if !mutation_at(runs, i).same(mutation_at(others, i)) {
             return false;
         }
     }
     true
+}
+
+/// The mutation at place `i` of runs, counted from 0.
+fn mutation_at(runs: &[Run], i: usize) -> &Mutation
+    requires { i < length (all_in runs.now) }
+    ensures { slice_get (all_in runs.now) i ≡ Some result.now }
+{
+    let [run, rest @ ..] = runs else {
+        unreachable!()
+    };
+    if i < run.len() {
+        run.get(i)
+    } else {
+        mutation_at(rest, i - run.len())
+    }
 }

@@ -1,4 +1,4 @@
-ghost use Rattle.std.specs.Prelude.{◌≡◌, ◌↔◌, ◌<◌, ◌^◌, true, [], ◌∷◌, ◌++◌, Some, None, length, map, slice_get, option_map, unwrap_or, IsTrue, IsSome, IfOk, OnOk, MatchResult};
+ghost use Rattle.std.specs.Prelude.{◌≡◌, ◌↔◌, ◌<◌, ◌≤◌, ◌+◌, ◌^◌, true, [], ◌∷◌, ◌++◌, Some, None, length, map, slice_get, option_map, unwrap_or, IsTrue, IsSome, IfOk, OnOk, MatchResult};
 ghost use Rattle.std.specs.Arc.{arc_value};
 ghost use Rattle.tablet_model.specs.Answers.{answer};
 ghost use Rattle.tablet_model.specs.Compactions.{minor_compaction};
@@ -229,6 +229,13 @@ impl View {
         ensures { result ≡ length self.now.log }
     {
         self.log.len() as u64
+    }
+
+    /// The number of runs that its log of mutations lies in: few, however many mutations there are. It takes no memory.
+    pub fn log_runs(&self) -> u32
+        ensures { 2 ^ result ≤ length self.now.log + 1 }
+    {
+        self.log.runs()
     }
 
     /// The number of this view. It takes no memory.
