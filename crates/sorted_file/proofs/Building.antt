@@ -95,12 +95,13 @@ built_push b list e is same fits ordered next bytes blocks count =
 
 -- ---- files
 
-pub is_file : (f : file.Inside) (list : List Cell) → f.bytes ≡ image_of list → IsFileList list → f.count ≡ length list → IsFile f × (file_list f ≡ list)
-is_file f list image is count =
+pub is_file : (f : file.Inside) (list : List Cell) → f.bytes ≡ image_of list → IsFileList list → f.blocks.items ≡ block_places list → f.count ≡ length list → IsFile f × (file_list f ≡ list)
+is_file f list image is blocks count =
     let e : file_list f ≡ list = ap list_in image ∙ ap (λ (r : Result (List Cell) Fault). result_unwrap_or r []) (image_again list is) in (
       record {
         image = image ∙ ap image_of (sym e);
         list = subst IsFileList (sym e) is;
+        blocks = blocks ∙ ap block_places (sym e);
         count = count ∙ ap length (sym e);
       },
       e,
@@ -115,11 +116,11 @@ finished_image list = whole ((magic ++ version) ++ entries_bytes list) end_mark 
 
 -- the file that a builder finishes, part by part
 pub finished : (b : builder.Inside) → IsBuilt b → (marked indexed numbered : List ℕ) (f : file.Inside) → marked ≡ b.bytes ++ end_mark → indexed ≡ marked ++ index_bytes b.blocks.items
-    → numbered ≡ indexed ++ to_be_bytes w64 b.count → f.bytes ≡ numbered ++ end_magic → f.count ≡ b.count → IsFile f × (file_list f ≡ built_list b)
-finished b is marked indexed numbered f m i n e count =
+    → numbered ≡ indexed ++ to_be_bytes w64 b.count → f.bytes ≡ numbered ++ end_magic → f.blocks.items ≡ b.blocks.items → f.count ≡ b.count → IsFile f × (file_list f ≡ built_list b)
+finished b is marked indexed numbered f m i n e blocks count =
     let list : List Cell = built_list b in
     let head : List ℕ = (magic ++ version) ++ entries_bytes list in
     let m' : marked ≡ head ++ end_mark = m ∙ ap (λ (r : List ℕ). r ++ end_mark) is.image in
     let i' : indexed ≡ (head ++ end_mark) ++ index_bytes (block_places list) = i ∙ ap (λ (r : List ℕ). r ++ index_bytes b.blocks.items) m' ∙ ap (λ (r : List ℕ). (head ++ end_mark) ++ index_bytes r) is.blocks in
     let n' : numbered ≡ ((head ++ end_mark) ++ index_bytes (block_places list)) ++ to_be_bytes w64 (length list) = n ∙ ap (λ (r : List ℕ). r ++ to_be_bytes w64 b.count) i' ∙ ap (λ (k : ℕ). ((head ++ end_mark) ++ index_bytes (block_places list)) ++ to_be_bytes w64 k) is.count in
-    is_file f list (e ∙ ap (λ (r : List ℕ). r ++ end_magic) n' ∙ finished_image list) is.list (count ∙ is.count)
+    is_file f list (e ∙ ap (λ (r : List ℕ). r ++ end_magic) n' ∙ finished_image list) is.list (blocks ∙ is.blocks) (count ∙ is.count)

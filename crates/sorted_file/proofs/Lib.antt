@@ -9,4 +9,5 @@ pub mod Building
 pub mod Loops
 pub mod Opening
 pub mod Places
+pub mod Blocks
 pub mod Walks

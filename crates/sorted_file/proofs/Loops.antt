@@ -1,11 +1,12 @@
 -- Reading the index and the entries one after the other, as loops do.
-use Rattle.std.proofs.Common.{◌≡◌, ℕ, zero, suc, ◌+◌, ◌-◌, ◌<◌, ◌≤◌, Bool, true, false, cond, eqb, List, [], ◌∷◌, ◌++◌, length, get_or, drop, Option, Some, Result, Ok, Err, refl, sym, ap, ◌∙◌, append_assoc, length-append, arith, add-one, drop-cons}
+use Rattle.std.proofs.Common.{◌≡◌, ℕ, zero, suc, ◌+◌, ◌-◌, ◌<◌, ◌≤◌, Bool, true, false, cond, eqb, List, [], ◌∷◌, ◌++◌, length, get_or, drop, Option, Some, Result, Ok, Err, refl, sym, ap, ◌∙◌, append_assoc, length-append, arith, add-one, zero-add, drop-cons}
 use Rattle.std.specs.Int.{w16, w64, to_be_bytes}
 use Rattle.std.proofs.lemmas.List.{append-nil, drop_all}
 use Rattle.std.proofs.lemmas.Bool.{lt-ltb}
 use Rattle.tablet_model.specs.Cell.{Cell}
 use Rattle.sorted_file.specs.Image.{entry_bytes, block_start, blocks_from}
 use Rattle.sorted_file.specs.Reading.{◌>>=◌, Unread, fault, bytes_at, number_at, expected_at, next_entry_at, entries_at, index_at}
+use Rattle.sorted_file.specs.Answers.{counted}
 use Rattle.sorted_file.specs.declared.fault.Fault.{Fault}
 use Rattle.sorted_file.specs.declared.fault.ImageCause.TheVariants.{Length, Index}
 use Rattle.sorted_file.proofs.Fields.{IsBytes}
@@ -28,6 +29,16 @@ index_done places i u l = ap (λ (ps : List ℕ). index_at ps u) (drop_all i pla
 -- blocks and a number of entries that were read before, and what is still read
 abbrev pub with_front : List ℕ → ℕ → ℕ → Result (List Cell × Unread) Fault → Result (List ℕ × ℕ × Unread) Fault
 with_front blocks count at entries = entries >>= λ x. Ok (blocks ++ blocks_from count at x.0, count + length x.0, x.1)
+
+-- before any was read
+pub nothing_read : (blocks : List ℕ) (at most : ℕ) (before : Option Cell) (u : Unread) → blocks ≡ [] → with_front blocks 0 at (entries_at (most - 0) before u) ≡ counted at (entries_at most before u)
+nothing_read blocks at most before u none =
+    let all : most - 0 ≡ most = omega arith in
+    ap (λ b. with_front b 0 at (entries_at (most - 0) before u)) none ∙ ap (λ m. with_front [] 0 at (entries_at m before u)) all ∙ go (entries_at most before u)
+  where
+    go : (r : Result (List Cell × Unread) Fault) → with_front [] 0 at r ≡ counted at r
+    go (Ok x) = ap (λ n. Ok (blocks_from 0 at x.0, n, x.1)) (zero-add (length x.0))
+    go (Err f) = refl
 
 no_length : (u : Unread) → length u.rest ≤ 0 → number_at w16 u ≡ fault Length u.at
 unfolding number_at bytes_at

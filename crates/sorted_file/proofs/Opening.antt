@@ -1,5 +1,5 @@
 -- What the reading of a whole image comes to, part by part.
-use Rattle.std.proofs.Common.{◌≡◌, ℕ, ◌<◌, ◌≤◌, List, [], ◌++◌, length, All, None, Result, Ok, Err, refl, sym, ap, subst, ◌∙◌, length-append, arith}
+use Rattle.std.proofs.Common.{◌≡◌, ℕ, zero, suc, ◌<◌, ◌≤◌, List, [], ◌∷◌, ◌++◌, length, All, None, Result, Ok, Err, refl, sym, ap, subst, ◌∙◌, length-append, arith}
 use Rattle.std.specs.Prelude.{IsErrAnd}
 use Rattle.std.proofs.lemmas.List.{get_or_default}
 use Rattle.std.specs.Result.{result_unwrap_or}
@@ -35,6 +35,11 @@ head_is bytes v fits e =
 
 pub all_bytes : (bytes : List ℕ) → IsBytes bytes → All (λ b. b < 256) bytes
 all_bytes bytes fits i d l = rw (get_or_default bytes i d 0 l) (fits i)
+
+pub in_bytes : (bytes : List ℕ) → All (λ b. b < 256) bytes → IsBytes bytes
+in_bytes [] all i = omega arith
+in_bytes (b ∷ bs) all zero = all zero b (omega arith)
+in_bytes (b ∷ bs) all (suc i) = in_bytes bs (λ j d l. all (suc j) d (omega arith)) i
 
 -- ---- the body
 
@@ -88,6 +93,14 @@ footer_found bytes v blocks count w z head body e =
     let footer : footer_at (block_places body.list) (length body.list) w ≡ Ok z = ap (λ (b : List ℕ). footer_at b (length body.list) w) body.blocks_are ∙ ap (λ (k : ℕ). footer_at blocks k w) body.count_is ∙ e in
     rw (head, body.read, footer) (ap (λ (k : ℕ). Ok k) body.count_is)
 
+-- the blocks of the list that they are the image of
+pub blocks_found : (bytes : List ℕ) (v : Unread) (blocks : List ℕ) (count : ℕ) (w z : Unread) → head_at (spot 0 bytes) ≡ Ok v → AreCounted bytes v blocks count w → footer_at blocks count w ≡ Ok z
+    → blocks ≡ block_places (list_in bytes)
+unfolding image_reading
+blocks_found bytes v blocks count w z head body e =
+    let footer : footer_at (block_places body.list) (length body.list) w ≡ Ok z = ap (λ (b : List ℕ). footer_at b (length body.list) w) body.blocks_are ∙ ap (λ (k : ℕ). footer_at blocks k w) body.count_is ∙ e in
+    rw (head, body.read, footer) (sym body.blocks_are)
+
 -- ---- the whole
 
 -- what was counted is the image of its list
@@ -99,10 +112,10 @@ read_is bytes count fits e =
     subst (λ (l : List Cell). (image_of l ≡ bytes) × IsFileList l) list t
 
 -- a file that was opened
-pub opened : (f : Inside) (bytes : List ℕ) → bytes ≡ f.bytes → count_in (image_reading bytes) ≡ Ok f.count → image_of (list_in bytes) ≡ bytes → IsFileList (list_in bytes) → IsFile f × (image_reading f.bytes ≡ Ok (file_list f))
-opened f bytes e counted image list =
+pub opened : (f : Inside) (bytes : List ℕ) → bytes ≡ f.bytes → count_in (image_reading bytes) ≡ Ok f.count → image_of (list_in bytes) ≡ bytes → IsFileList (list_in bytes) → f.blocks.items ≡ block_places (list_in bytes) → IsFile f × (image_reading f.bytes ≡ Ok (file_list f))
+opened f bytes e counted image list blocks =
     let b = bind_ok (image_reading bytes) (λ l. Ok (length l)) f.count counted in
     let list_is : b.0 ≡ list_in bytes = sym (ap (λ (r : Result (List Cell) Fault). result_unwrap_or r []) b.1) in
     let count : f.count ≡ length (list_in bytes) = sym (ok_is (length b.0) f.count b.2) ∙ ap length list_is in
-    let made = is_file f (list_in bytes) (sym e ∙ sym image) list count in
+    let made = is_file f (list_in bytes) (sym e ∙ sym image) list blocks count in
     (made.0, ap image_reading (sym e) ∙ b.1 ∙ ap (λ (l : List Cell). Ok l) (list_is ∙ sym made.1))

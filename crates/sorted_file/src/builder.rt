@@ -78,6 +78,7 @@ impl FileBuilder {
         bytes.append(&END_MAGIC)?;
         Ok(SortedFile {
             bytes,
+            blocks: self.blocks,
             count: self.count,
         })
     }

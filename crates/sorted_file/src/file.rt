@@ -1,14 +1,14 @@
-ghost use Rattle.std.specs.Prelude.{◌≡◌, ◌<◌, ◌+◌, Some, length, slice_get};
+ghost use Rattle.std.specs.Prelude.{◌≡◌, ◌<◌, ◌+◌, ◌*◌, Some, length, slice_get};
 ghost use Rattle.cell_key.specs.Views.{cell_of};
 ghost use Rattle.sorted_file.specs.Answers.{Opens};
-ghost use Rattle.sorted_file.specs.Image.{entry_place, image_of};
+ghost use Rattle.sorted_file.specs.Image.{block_places, entry_place, image_of};
 ghost use Rattle.sorted_file.specs.Lists.{IsFileList};
 ghost use Rattle.sorted_file.specs.Reading.{image_reading};
 
 use crate::entry_reading::take_entry;
 use crate::fault::OpenError;
-use crate::format::{MAGIC, VERSION};
-use crate::image_reading::read_image;
+use crate::format::{BLOCK_ENTRIES, MAGIC, VERSION};
+use crate::image_reading::{Contents, read_image};
 use crate::input::Input;
 use crate::spot::Spot;
 use cell_key::{ByteText, EntryRef};
@@ -19,6 +19,8 @@ use std::marker::Model;
 #[derive(Drop)]
 pub struct SortedFile {
     pub(crate) bytes: ByteText,
+    /// The places of its blocks.
+    pub(crate) blocks: Vec<u64>,
     /// The number of entries.
     pub(crate) count: usize,
 }
@@ -41,8 +43,12 @@ impl SortedFile {
     pub fn open(alloc: Global, bytes: ByteText) -> Result<SortedFile, OpenError>
         ensures { Opens (λ file. file) result (image_reading bytes) }
     {
-        let count = read_image(alloc, bytes.bytes())?;
-        Ok(SortedFile { bytes, count })
+        let Contents { blocks, count } = read_image(alloc, bytes.bytes())?;
+        Ok(SortedFile {
+            bytes,
+            blocks,
+            count,
+        })
     }
 
     /// The number of entries. It takes no memory.
@@ -78,6 +84,27 @@ impl SortedFile {
         Spot {
             index: 0,
             place: MAGIC.len() + VERSION.len(),
+        }
+    }
+
+    /// The number of blocks.
+    pub(crate) fn blocks(&self) -> usize
+        ensures { result ≡ length (block_places self.now) }
+    {
+        self.blocks.len()
+    }
+
+    /// Where a block begins, of which there has to be one of this number, from 0.
+    pub(crate) fn block(&self, number: usize) -> Spot
+        requires { number < length (block_places self.now) }
+        ensures index { result.index ≡ 64 * number }
+        ensures within { result.index < length self.now }
+        ensures place { result.place ≡ entry_place self.now result.index }
+    {
+        let place = self.blocks[number] as usize;
+        Spot {
+            index: number * BLOCK_ENTRIES,
+            place,
         }
     }
 

@@ -1,8 +1,8 @@
 // How an image is read.
-ghost use Rattle.std.specs.Prelude.{◌≡◌, ◌<◌, ◌≤◌, ◌++◌, None, All, OnOk, length, option_map};
+ghost use Rattle.std.specs.Prelude.{◌≡◌, ◌<◌, ◌≤◌, ◌++◌, None, All, IfOk, OnOk, length, option_map};
 ghost use Rattle.cell_key.specs.Views.{cell_of};
 ghost use Rattle.sorted_file.specs.Answers.{Gives, Opens, count_in, counted, list_in, unread_of};
-ghost use Rattle.sorted_file.specs.Image.{block_start, image_of};
+ghost use Rattle.sorted_file.specs.Image.{block_places, block_start, image_of};
 ghost use Rattle.sorted_file.specs.Lists.{IsFileList, is_out_of_order};
 ghost use Rattle.sorted_file.specs.Reading.{entries_at, footer_at, head_at, image_reading, index_at, next_entry_at};
 
@@ -10,14 +10,23 @@ use crate::entry_reading::take_entry;
 use crate::fault::{Fault, ImageCause, OpenError};
 use crate::format::{BLOCK_ENTRIES, END_MAGIC, MAGIC, VERSION};
 use crate::input::Input;
-use cell_key::{EntryRef, Items, NoMemory, compare_entries};
+use cell_key::{EntryRef, NoMemory, compare_entries};
 use std::alloc::Global;
+
+/// What an image says of its entries.
+#[derive(Drop)]
+pub struct Contents {
+    /// The places of the blocks.
+    pub blocks: Vec<u64>,
+    /// The number of entries.
+    pub count: usize,
+}
 
 /// What the entries of an image come to.
 #[derive(Drop)]
 struct Body<'a> {
     /// The places of the blocks.
-    places: Items<u64>,
+    places: Vec<u64>,
     /// The number of entries.
     count: usize,
     /// What follows the end mark.
@@ -52,8 +61,8 @@ fn take_next<'a>(
 }
 
 /// Puts the place of an entry to those of the blocks, if it begins one.
-fn note_block(places: &mut Items<u64>, count: usize, place: usize) -> Result<(), NoMemory>
-    ensures { OnOk result (places.new ≡ places.old ++ block_start count place) }
+fn note_block(places: &mut Vec<u64>, count: usize, place: usize) -> Result<(), NoMemory>
+    ensures { OnOk result (places.new.items ≡ places.old.items ++ block_start count place) }
 {
     if count % BLOCK_ENTRIES == 0 {
         places.push(place as u64)?;
@@ -65,10 +74,10 @@ fn note_block(places: &mut Items<u64>, count: usize, place: usize) -> Result<(),
 fn take_body<'a>(alloc: Global, most: usize, input: Input<'a>) -> Result<Body<'a>, OpenError>
     requires few { length input.rest.now ≤ most }
     requires bytes { All (λ b. b < 256) input.rest.now }
-    ensures { Opens (λ body. (body.places, body.count, unread_of body.rest)) result
+    ensures { Opens (λ body. (body.places.items, body.count, unread_of body.rest)) result
         (counted input.entry.at (entries_at most None (unread_of input.entry))) }
 {
-    let mut places = Items::new(alloc);
+    let mut places = Vec::new(alloc);
     let mut count = 0;
     let mut before = None;
     let mut rest = input;
@@ -123,9 +132,10 @@ fn take_head(input: Input<'_>) -> Result<Input<'_>, Fault>
     input.expect(&VERSION, ImageCause::Version)
 }
 
-/// The number of entries of an image.
-pub fn read_image(alloc: Global, bytes: &[u8]) -> Result<usize, OpenError>
-    ensures count { Opens (λ count. count) result (count_in (image_reading bytes.now)) }
+/// What an image says of its entries: where its blocks stand, and how many entries there are.
+pub fn read_image(alloc: Global, bytes: &[u8]) -> Result<Contents, OpenError>
+    ensures count { Opens (λ contents. contents.count) result (count_in (image_reading bytes.now)) }
+    ensures blocks { IfOk result (λ contents. contents.blocks.items ≡ block_places (list_in bytes.now)) }
     ensures image { OnOk result (image_of (list_in bytes.now) ≡ bytes.now) }
     ensures list { OnOk result (IsFileList (list_in bytes.now)) }
 {
@@ -136,5 +146,8 @@ pub fn read_image(alloc: Global, bytes: &[u8]) -> Result<usize, OpenError>
         rest,
     } = take_body(alloc, bytes.len(), input)?;
     take_footer(places.as_slice(), count, rest)?;
-    Ok(count)
+    Ok(Contents {
+        blocks: places,
+        count,
+    })
 }

@@ -1,5 +1,6 @@
-// Where the ends of a range lie in a file. For now each search goes from entry to entry, without the index.
-ghost use Rattle.std.specs.Prelude.{◌≡◌, ◌≤◌, ◌-◌, length, filter, take, drop};
+// Where the ends of a range lie in a file. Each search finds a block first, and goes from entry to entry in it.
+ghost use Rattle.std.specs.Prelude.{◌≡◌, ◌≤◌, ◌-◌, false, length, filter, take, drop};
+ghost use Rattle.std.specs.List.{AllByRecursion};
 ghost use Rattle.tablet_model.specs.Cuts.{is_behind, is_before};
 ghost use Rattle.cell_key.specs.Ranges.{cut_of};
 ghost use Rattle.sorted_file.specs.Image.{entry_place};
@@ -14,7 +15,10 @@ pub fn first_behind(file: &SortedFile, start: &Bound<'_>) -> Spot
     ensures place { result.place ≡ entry_place file.now result.index }
     ensures behind { filter (λ e. is_behind (cut_of start.now) e.key) file.now ≡ drop result.index file.now }
 {
-    let mut spot = file.start();
+    if let Bound::Open = start {
+        return file.start();
+    }
+    let mut spot = last_block_before(file, start);
     while spot.index < file.len() {
         let (entry, next) = file.entry(spot);
         if lies_behind(start, entry.key) {
@@ -34,7 +38,15 @@ pub fn end_before(file: &SortedFile, from: Spot, end: &Bound<'_>) -> usize
     ensures before { filter (λ e. is_before (cut_of end.now) e.key) (drop from.index file.now)
         ≡ take (result - from.index) (drop from.index file.now) }
 {
-    let mut spot = from;
+    if let Bound::Open = end {
+        return file.len();
+    }
+    let block = last_block_before(file, end);
+    let mut spot = if from.index < block.index {
+        block
+    } else {
+        from
+    };
     while spot.index < file.len() {
         let (entry, next) = file.entry(spot);
         if !lies_before(end, entry.key) {
@@ -43,4 +55,28 @@ pub fn end_before(file: &SortedFile, from: Spot, end: &Bound<'_>) -> usize
         spot = next;
     }
     spot.index
+}
+
+/// Where the last block begins whose first entry does not lie behind a bound, or the first entry where there is none
+/// such.
+fn last_block_before(file: &SortedFile, bound: &Bound<'_>) -> Spot
+    ensures within { result.index ≤ length file.now }
+    ensures place { result.place ≡ entry_place file.now result.index }
+    ensures passed { AllByRecursion (λ e. is_behind (cut_of bound.now) e.key ≡ false) (take result.index file.now) }
+{
+    let mut last = file.start();
+    let mut low = 0;
+    let mut high = file.blocks();
+    while low < high {
+        let middle = low + (high - low) / 2;
+        let block = file.block(middle);
+        let (entry, _) = file.entry(block);
+        if lies_behind(bound, entry.key) {
+            high = middle;
+        } else {
+            low = middle + 1;
+            last = block;
+        }
+    }
+    last
 }

@@ -11,7 +11,7 @@ abbrev pub invariant-loop-places : goal.invariant-loop-places
 invariant-loop-places l = record {
   few : l.count + length l.rest.rest.now ≤ l.most;
   bytes : IsBytes l.rest.rest.now;
-  read : with_front l.places l.count l.rest.at (entries_at (l.most - l.count) (option_map cell_of l.before) (unread_of l.rest)) ≡ counted l.input.at (entries_at l.most None (unread_of l.input));
+  read : with_front l.places.items l.count l.rest.at (entries_at (l.most - l.count) (option_map cell_of l.before) (unread_of l.rest)) ≡ counted l.input.at (entries_at l.most None (unread_of l.input));
 }
 
 abbrev pub decreases-loop-places : goal.decreases-loop-places

@@ -4,8 +4,24 @@ use Rattle.tablet_model.specs.Cuts.{is_behind}
 use Rattle.cell_key.specs.Ranges.{cut_of}
 use Rattle.cell_key.specs.Views.{cell_of}
 use Rattle.sorted_file.specs.Image.{entry_place}
+use Rattle.cell_key.specs.declared.range.Bound.{Bound}
+use Rattle.sorted_file.proofs.Blocks.{all_from_start, behind_from}
 use Rattle.sorted_file.proofs.Walks.{skipped, all_behind}
 use Rattle.sorted_file.proofs.seeking.first_behind.Goals as goal
+
+pub returns-in-Open-clause-behind : goal.returns-in-Open-clause-behind
+returns-in-Open-clause-behind c =
+    let list = c.args.file.now in
+    ap (λ (b : Bound). filter (λ e. is_behind (cut_of b) e.key) list) c.in-Open.is ∙ all_from_start list ∙ ap (λ (n : ℕ). drop n list) (sym c.start.ensures.index)
+
+pub loop-spot-init : goal.loop-spot-init
+loop-spot-init c =
+    let block = c.last_block_before-spot in
+    record {
+      within = block.ensures.within;
+      place = block.ensures.place;
+      behind = behind_from (cut_of c.args.start.now) c.args.file.now block.result.index block.ensures.passed;
+    }
 
 pub returns-then-lies_behind-clause-behind : goal.returns-then-lies_behind-clause-behind
 returns-then-lies_behind-clause-behind c =
