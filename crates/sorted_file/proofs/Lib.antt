@@ -11,3 +11,4 @@ pub mod Opening
 pub mod Places
 pub mod Blocks
 pub mod Walks
+pub mod Layouts

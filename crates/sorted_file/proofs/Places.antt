@@ -71,18 +71,26 @@ entries_within list =
     let head : List ℕ = magic ++ version in
     omega (arith, length-append (head ++ entries_bytes list) (footer_bytes list), length-append head (entries_bytes list))
 
+-- the image from an entry on
+pub entry_from : (list : List Cell) (i : ℕ) → (a : Around list i) → drop (entry_place list i) (image_of list) ≡ entry_bytes a.entry ++ (entries_bytes a.behind ++ footer_bytes list)
+entry_from list i a =
+    image_from list i ∙ ap (λ (l : List Cell). entries_bytes l ++ footer_bytes list) a.from_entry ∙ ap (λ (b : List ℕ). b ++ footer_bytes list) (flat_map-cons entry_bytes a.entry a.behind) ∙ append_assoc (entry_bytes a.entry) (entries_bytes a.behind) (footer_bytes list)
+
+-- the place behind it
+pub next_place : (list : List Cell) (i : ℕ) → (a : Around list i) → entry_place list i + length (entry_bytes a.entry) ≡ entry_place list (i + 1)
+next_place list i a =
+    let one : entries_bytes (a.entry ∷ []) ≡ entry_bytes a.entry ++ [] = flat_map-cons entry_bytes a.entry [] in
+    omega (arith, ap (λ (l : List Cell). length (entries_bytes l)) a.up_to, ap length (flat_map-append entry_bytes (take i list) (a.entry ∷ [])), length-append (entries_bytes (take i list)) (entries_bytes (a.entry ∷ [])), ap length one, length-append (entry_bytes a.entry) [])
+
+pub the_entry_is : (P : Cell → Type 0) (list : List Cell) (i : ℕ) → (a : Around list i) → AllByRecursion P list → P a.entry
+the_entry_is P list i a all = entry_is P list i a.entry a.behind all a.from_entry
+
 -- what is read at the place of an entry
 entry_found : (list : List Cell) (i : ℕ) → IsFileList list → (a : Around list i) → entry_at (spot (entry_place list i) (drop (entry_place list i) (image_of list))) ≡ Ok (a.entry, spot (entry_place list (i + 1)) (entries_bytes a.behind ++ footer_bytes list))
 entry_found list i is a =
-    let fits = entry_is IsFileEntry list i a.entry a.behind is.entries a.from_entry in
-    let bytes : drop (entry_place list i) (image_of list) ≡ entry_bytes a.entry ++ (entries_bytes a.behind ++ footer_bytes list) =
-    image_from list i ∙ ap (λ (l : List Cell). entries_bytes l ++ footer_bytes list) a.from_entry ∙ ap (λ (b : List ℕ). b ++ footer_bytes list) (flat_map-cons entry_bytes a.entry a.behind) ∙ append_assoc (entry_bytes a.entry) (entries_bytes a.behind) (footer_bytes list) in
-    let one : entries_bytes (a.entry ∷ []) ≡ entry_bytes a.entry ++ [] = flat_map-cons entry_bytes a.entry [] in
-    let place : entry_place list i + length (entry_bytes a.entry) ≡ entry_place list (i + 1) =
-    omega (arith, ap (λ (l : List Cell). length (entries_bytes l)) a.up_to, ap length (flat_map-append entry_bytes (take i list) (a.entry ∷ [])), length-append (entries_bytes (take i list)) (entries_bytes (a.entry ∷ [])), ap length one, length-append (entry_bytes a.entry) []) in
-    ap (λ (b : List ℕ). entry_at (spot (entry_place list i) b)) bytes
-    ∙ entry_again a.entry fits (entry_place list i) (entries_bytes a.behind ++ footer_bytes list)
-    ∙ ap (λ (p : ℕ). Ok (a.entry, spot p (entries_bytes a.behind ++ footer_bytes list))) place
+    ap (λ (b : List ℕ). entry_at (spot (entry_place list i) b)) (entry_from list i a)
+    ∙ entry_again a.entry (the_entry_is IsFileEntry list i a is.entries) (entry_place list i) (entries_bytes a.behind ++ footer_bytes list)
+    ∙ ap (λ (p : ℕ). Ok (a.entry, spot p (entries_bytes a.behind ++ footer_bytes list))) (next_place list i a)
 
 -- the same, for bytes that are known to be the image's
 entry_read : (list : List Cell) (i place : ℕ) (bytes rest : List ℕ) → IsFileList list → (a : Around list i) → place ≡ entry_place list i → bytes ≡ image_of list → rest ≡ drop place bytes

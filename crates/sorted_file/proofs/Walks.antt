@@ -17,7 +17,7 @@ Ascends-drop zero list h = h
 Ascends-drop (suc i) [] h = tt
 Ascends-drop (suc i) (x ∷ xs) h = Ascends-drop i xs h.1
 
-same_entry : (list : List Cell) (i : ℕ) (a : Around list i) (e : Cell) → slice_get list i ≡ Some e → a.entry ≡ e
+pub same_entry : (list : List Cell) (i : ℕ) (a : Around list i) (e : Cell) → slice_get list i ≡ Some e → a.entry ≡ e
 same_entry list i a e is = let h = sym a.is_entry ∙ is in cc
 
 -- ---- behind a start

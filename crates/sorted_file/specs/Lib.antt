@@ -5,3 +5,4 @@ pub mod Answers
 pub mod FileParts
 pub mod BuilderParts
 pub mod CursorParts
+pub mod Outlines

@@ -5,8 +5,10 @@ ghost use Rattle.tablet_model.specs.Sorted.{Ascends};
 ghost use Rattle.tablet_model.specs.Bounds.{AreEntries};
 ghost use Rattle.iter_contract.specs.Props.{Ascends-prop, AreEntries-prop};
 ghost use Rattle.sorted_file.specs.Image.{entry_place};
+ghost use Rattle.sorted_file.specs.Outlines.{IsOutlineAt};
 
 use crate::file::SortedFile;
+use crate::outline::Outline;
 use crate::seeking::{end_before, first_behind};
 use crate::spot::Spot;
 use cell_key::{EntryRef, NoMemory, Range};
@@ -22,9 +24,12 @@ pub struct FileCursor {
     /// What is left begins at `top`, and `end` entries of the file stand before its end.
     top: Spot,
     end: usize,
+    /// Where the parts of the top end.
+    outline: Outline,
     ghost order: { top.index ≤ end },
     ghost bound: { end ≤ length (arc_value file) },
     ghost place: { top.place ≡ entry_place (arc_value file) top.index },
+    ghost is_outline: { IsOutlineAt (arc_value file) top.index top.place outline },
     ghost is_sorted: { Ascends above (arc_value file) } by { Ascends-prop (arc_value file) },
     ghost is_bounded: { AreEntries (arc_value file) } by { AreEntries-prop (arc_value file) },
 }
@@ -40,7 +45,13 @@ impl SortedFile {
     {
         let file = Arc::try_clone(file)?;
         let top = file.start();
-        Ok(FileCursor { file, top, end: 0 })
+        let outline = file.outline(top);
+        Ok(FileCursor {
+            file,
+            top,
+            end: 0,
+            outline,
+        })
     }
 }
 
@@ -64,23 +75,29 @@ impl SortedSource for FileCursor {
         let file: &SortedFile = &self.file;
         let top = first_behind(file, &range.start);
         let end = end_before(file, top, &range.end);
+        let outline = file.outline(top);
         self.top = top;
         self.end = end;
+        self.outline = outline;
         Ok(())
     }
 
     fn top(&self) -> Option<EntryRef<'_>> {
         if self.top.index < self.end {
-            let (entry, _) = self.file.entry(self.top);
-            Some(entry)
+            Some(self.file.outlined(self.top, self.outline))
         } else {
             None
         }
     }
 
     fn next(&mut self) -> Result<(), NoMemory> {
-        let (_, next) = self.file.entry(self.top);
+        let next = Spot {
+            index: self.top.index + 1,
+            place: self.outline.value_end,
+        };
+        let outline = self.file.outline(next);
         self.top = next;
+        self.outline = outline;
         Ok(())
     }
 

@@ -1,8 +1,9 @@
-ghost use Rattle.std.specs.Prelude.{◌≡◌, ◌<◌, ◌+◌, ◌*◌, Some, length, slice_get};
+ghost use Rattle.std.specs.Prelude.{◌≡◌, ◌<◌, ◌≤◌, ◌+◌, ◌*◌, Some, length, slice_get};
 ghost use Rattle.cell_key.specs.Views.{cell_of};
 ghost use Rattle.sorted_file.specs.Answers.{Opens};
 ghost use Rattle.sorted_file.specs.Image.{block_places, entry_place, image_of};
 ghost use Rattle.sorted_file.specs.Lists.{IsFileList};
+ghost use Rattle.sorted_file.specs.Outlines.{IsOutlineAt};
 ghost use Rattle.sorted_file.specs.Reading.{image_reading};
 
 use crate::entry_reading::take_entry;
@@ -10,6 +11,7 @@ use crate::fault::OpenError;
 use crate::format::{BLOCK_ENTRIES, MAGIC, VERSION};
 use crate::image_reading::{Contents, read_image};
 use crate::input::Input;
+use crate::outline::{Outline, outline_between, outline_of_none, slices};
 use crate::spot::Spot;
 use cell_key::{ByteText, EntryRef};
 use std::alloc::Global;
@@ -129,5 +131,30 @@ impl SortedFile {
             place: rest.at,
         };
         (entry, next)
+    }
+
+    /// Where the parts of the entry at a spot end, if there is one.
+    pub(crate) fn outline(&self, spot: Spot) -> Outline
+        requires within { spot.index ≤ length self.now }
+        requires place { spot.place ≡ entry_place self.now spot.index }
+        ensures { IsOutlineAt self.now spot.index spot.place result }
+    {
+        if spot.index < self.len() {
+            let (entry, next) = self.entry(spot);
+            outline_between(spot.place, entry, next.place)
+        } else {
+            outline_of_none()
+        }
+    }
+
+    /// The entry at a spot, as slices that its outline finds.
+    pub(crate) fn outlined(&self, spot: Spot, outline: Outline) -> EntryRef<'_>
+        requires within { spot.index < length self.now }
+        requires place { spot.place ≡ entry_place self.now spot.index }
+        requires outline { IsOutlineAt self.now spot.index spot.place outline }
+        ensures { slice_get self.now spot.index ≡ Some (cell_of result) }
+    {
+        let bytes = self.bytes();
+        slices(bytes, spot.place, outline)
     }
 }

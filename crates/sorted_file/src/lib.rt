@@ -11,6 +11,7 @@ mod format;
 mod image_laws;
 mod image_reading;
 mod input;
+mod outline;
 mod seeking;
 mod spot;
 

@@ -9,4 +9,4 @@ pub returns-then-self : goal.returns-then-self
 returns-then-self c =
     let list = arc_value c.args.self.now.file in
     let at = c.args.self.now.top.index in
-    first_between list at c.args.self.now.end (cell_of c.entry.result.0) c.if-self.true (ap (λ l. slice_get l at) (sym c.deref.ensures) ∙ c.entry.ensures.entry)
+    first_between list at c.args.self.now.end (cell_of c.outlined.result) c.if-self.true (ap (λ l. slice_get l at) (sym c.deref.ensures) ∙ c.outlined.ensures)
