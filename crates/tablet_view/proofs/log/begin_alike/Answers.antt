@@ -1,6 +1,6 @@
 use Rattle.std.proofs.Common.{◌∷◌, ◌++◌, [], take, ap, refl, sym, ◌∙◌}
 use Rattle.tablet_view.specs.LogParts.{all_in}
-use Rattle.tablet_view.proofs.RunLists.{same_at, take_step}
+use Rattle.tablet_view.proofs.RunLists.{take_step}
 use Rattle.tablet_view.proofs.log.begin_alike.Goals as goal
 
 pub loop-i-preserved : goal.loop-i-preserved

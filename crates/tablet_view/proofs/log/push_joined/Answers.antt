@@ -1,4 +1,4 @@
-use Rattle.std.proofs.Common.{◌≡◌, ◌*◌, ◌≤◌, ◌∷◌, ◌++◌, [], length, length-append, sym, ◌∙◌, ap, subst, arith}
+use Rattle.std.proofs.Common.{◌*◌, ◌≤◌, ◌∷◌, ◌++◌, [], length, length-append, sym, ◌∙◌, ap, subst, arith}
 use Rattle.tablet_view.specs.LogParts.{all_in}
 use Rattle.tablet_model.specs.Runs.{AreHalving}
 use Rattle.tablet_model.proofs.Runs.{halving_front, halving_pair}

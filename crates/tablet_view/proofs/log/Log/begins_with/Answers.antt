@@ -1,4 +1,4 @@
-use Rattle.std.proofs.Common.{◌≡◌, length, take, map, ap, sym, subst, ◌∙◌}
+use Rattle.std.proofs.Common.{◌≡◌, length, take, map, sym, subst, ◌∙◌}
 use Rattle.cell_key.specs.Mutations.{row_change_of}
 use Rattle.tablet_view.specs.Extending.{BeginsWith}
 use Rattle.tablet_view.specs.LogParts.{all_in}
