@@ -4,7 +4,7 @@ ghost use Rattle.cell_key.specs.Views.{cell_of};
 ghost use Rattle.sorted_file.specs.Image.{end_magic, end_mark, index_bytes};
 ghost use Rattle.sorted_file.specs.Lists.{is_out_of_order, last_of, longest_value};
 
-use crate::entry_writing::entry_image;
+use crate::entry_writing::write_entry;
 use crate::file::SortedFile;
 use crate::format::{BLOCK_ENTRIES, END_MAGIC, END_MARK, MAGIC, VERSION};
 use cell_key::{ByteText, EntryRef, NoMemory};
@@ -14,7 +14,8 @@ use std::marker::Model;
 /// A file that is being written, entry by entry.
 #[derive(Drop)]
 pub struct FileBuilder {
-    alloc: Global,
+    /// The bytes of an entry while it is put, kept for the next one.
+    entry: Vec<u8>,
     /// The image so far, up to the last entry.
     bytes: ByteText,
     /// The places of its blocks.
@@ -45,7 +46,7 @@ impl FileBuilder {
         bytes.append(&MAGIC)?;
         bytes.append(&VERSION)?;
         Ok(FileBuilder {
-            alloc,
+            entry: Vec::new(alloc),
             bytes,
             blocks: Vec::new(alloc),
             count: 0,
@@ -59,10 +60,10 @@ impl FileBuilder {
         requires value { length entry.value.now ≤ longest_value entry.key.deleted }
         ensures { self.new ≡ (if is_ok result then self.old ++ cell_of entry.entry ∷ [] else self.old) }
     {
-        let bytes = entry_image(self.alloc, entry)?;
+        write_entry(&mut self.entry, entry)?;
         let begins_block = self.count % BLOCK_ENTRIES == 0;
         let block = begins_block.then_some(self.bytes.len() as u64);
-        append_entry(&mut self.bytes, &mut self.blocks, block, bytes.bytes())?;
+        append_entry(&mut self.bytes, &mut self.blocks, block, &self.entry)?;
         self.count += 1;
         Ok(())
     }
