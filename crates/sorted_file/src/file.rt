@@ -11,7 +11,7 @@ use crate::fault::OpenError;
 use crate::format::{BLOCK_ENTRIES, MAGIC, VERSION};
 use crate::image_reading::{Contents, read_image};
 use crate::input::Input;
-use crate::outline::{Outline, outline_between, outline_of_none, slices};
+use crate::outline::Outline;
 use crate::spot::Spot;
 use cell_key::{ByteText, EntryRef};
 use std::alloc::Global;
@@ -141,9 +141,9 @@ impl SortedFile {
     {
         if spot.index < self.len() {
             let (entry, next) = self.entry(spot);
-            outline_between(spot.place, entry, next.place)
+            Outline::of(entry, spot.place, next.place)
         } else {
-            outline_of_none()
+            Outline::none()
         }
     }
 
@@ -155,6 +155,6 @@ impl SortedFile {
         ensures { slice_get self.now spot.index ≡ Some (cell_of result) }
     {
         let bytes = self.bytes();
-        slices(bytes, spot.place, outline)
+        outline.slices(bytes, spot.place)
     }
 }
