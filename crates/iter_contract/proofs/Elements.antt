@@ -1,5 +1,5 @@
 -- What is said of each element of a list.
-use Rattle.std.proofs.Common.{◌≡◌, ℕ, zero, suc, ◌+◌, ◌<◌, ◌≤◌, ◌&&◌, Bool, true, List, [], ◌∷◌, length, map, take, drop, get_or, set, refl, sym, ◌∙◌, ap, subst, arith}
+use Rattle.std.proofs.Common.{◌≡◌, ℕ, zero, suc, ◌+◌, ◌<◌, ◌≤◌, ◌&&◌, Bool, true, List, [], ◌∷◌, length, map, take, drop, get_or, set, sym, ◌∙◌, ap, subst, arith}
 use Rattle.std.proofs.lemmas.List.{length-map, take_all, take_more_set}
 use Rattle.std.specs.List.{AllByRecursion, list_all}
 use Rattle.tablet_model.proofs.Merges.{all_append}
@@ -29,12 +29,6 @@ pub all_dropped : {X : Type 0} (P : X → Type 0) (xs : List X) (i : ℕ) → Al
 all_dropped P xs zero h = h
 all_dropped P [] (suc i) h = tt
 all_dropped P (x ∷ xs) (suc i) h = all_dropped P xs i h.1
-
--- what a function gives of it
-pub map_read : {X Y : Type 0} (f : X → Y) (xs : List X) (i : ℕ) (x : X) (d : Y) → i < length xs → get_or (map f xs) i d ≡ f (get_or xs i x)
-map_read f [] i x d l = absurd (omega arith)
-map_read f (y ∷ ys) zero x d l = refl
-map_read f (y ∷ ys) (suc i) x d l = map_read f ys i x d (omega arith)
 
 both : (a b : Bool) → (a && b) ≡ true → (a ≡ true) × (b ≡ true)
 both a b h = grind arith

@@ -1,6 +1,5 @@
 -- Of lists in the order of their first entries the first begins with the first entry of their sum.
-use Rattle.std.proofs.Common.{◌≡◌, ◌<◌, true, false, List, [], ◌∷◌, ◌++◌, length, map, get_or, slice_get, Some, None, Result, Ok, Err, refl, sym, ◌∙◌, ap, subst, arith}
-use Rattle.std.specs.Prelude.{is_ok, OnOk, if◌then◌else◌}
+use Rattle.std.proofs.Common.{◌≡◌, ◌<◌, true, false, List, [], ◌∷◌, ◌++◌, length, map, get_or, slice_get, Some, None, refl, sym, ◌∙◌, ap, subst, arith}
 use Rattle.std.specs.List.{AllByRecursion, flat_map}
 use Rattle.tablet_model.specs.Cell.{Cell}
 use Rattle.tablet_model.specs.Order.{above}
@@ -89,8 +88,3 @@ module _ {S : Type 0} (rest : S → List Cell) where
   pub some_of_first : (ss : List S) (s : S) → AreOrdered (map rest ss) → 0 < length (sum_all (map rest ss)) → s ≡ get_or ss 0 s → 0 < length (rest s)
   some_of_first [] s o some h = let none = some_source [] some in absurd (omega (arith, none))
   some_of_first (t ∷ ts) s o some h = subst (λ x. 0 < length (rest x)) (sym h) (some_first (rest t) (map rest ts) o some)
-
--- what is said of a list that a call gives is said where the call succeeds
-pub ok_list : {T E : Type 0} (r : Result T E) (now list : List Cell) (P : List Cell → Type 0) → now ≡ (if is_ok r then list else []) → P list → OnOk r (P now)
-ok_list (Ok t) now list P e h = subst P (sym e) h
-ok_list (Err f) now list P e h = tt

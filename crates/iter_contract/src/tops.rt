@@ -26,13 +26,13 @@ pub(crate) fn settle<S: SortedSource>(sources: &mut [S])
     ensures { sources.new ≡ settled S.rest sources.old }
 {
     if let Some((first, others)) = sources.split_first() {
-        let passed = count_before(others, first.top());
+        let passed = count_ahead(others, first.top());
         sources[..passed + 1].rotate_left(1);
     }
 }
 
 /// How many of the sources, from the first on, have a top that comes before this one.
-fn count_before<S: SortedSource>(sources: &[S], top: Option<EntryRef<'_>>) -> usize
+fn count_ahead<S: SortedSource>(sources: &[S], top: Option<EntryRef<'_>>) -> usize
     requires { AllByRecursion S.valid sources.now }
     ensures { result ≡ prefix_len (λ s. comes_before (first (S.rest s)) (option_map cell_of top.entry)) sources.now }
 {

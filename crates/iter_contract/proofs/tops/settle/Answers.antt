@@ -11,8 +11,8 @@ inside g c =
     let rest = g.S.SortedSource.rest in
     let most = prefix_len-le-length (has_later_top rest c.in-Some.first.now) c.in-Some.others.now in
     let long = ap length c.in-Some.ensures.cases.0 in
-    let passed : c.count_before-passed.result ≡ prefix_len (has_later_top rest c.in-Some.first.now) c.in-Some.others.now =
-    c.count_before-passed.ensures ∙ ap (λ o. prefix_len (λ s. comes_before (first (rest s)) o) c.in-Some.others.now) c.top.ensures in
+    let passed : c.count_ahead-passed.result ≡ prefix_len (has_later_top rest c.in-Some.first.now) c.in-Some.others.now =
+    c.count_ahead-passed.ensures ∙ ap (λ o. prefix_len (λ s. comes_before (first (rest s)) o) c.in-Some.others.now) c.top.ensures in
     omega (arith, most, long, passed)
 
 pub overflow_add-passed : goal.overflow_add-passed
@@ -24,7 +24,7 @@ slice_bounds-rotate_left-end = inside
 pub returns-in-Some : goal.returns-in-Some
 returns-in-Some g c =
     let rest = g.S.SortedSource.rest in
-    let passed : c.count_before-passed.result ≡ prefix_len (has_later_top rest c.in-Some.first.now) c.in-Some.others.now =
-    c.count_before-passed.ensures ∙ ap (λ o. prefix_len (λ s. comes_before (first (rest s)) o) c.in-Some.others.now) c.top.ensures in
-    ap (λ l. l ++ drop (c.count_before-passed.result + 1) c.args.sources.now) c.rotate_left.ensures.after
-    ∙ rotated rest c.args.sources.now c.in-Some.others.now c.in-Some.first.now c.count_before-passed.result c.in-Some.ensures.cases.0 passed
+    let passed : c.count_ahead-passed.result ≡ prefix_len (has_later_top rest c.in-Some.first.now) c.in-Some.others.now =
+    c.count_ahead-passed.ensures ∙ ap (λ o. prefix_len (λ s. comes_before (first (rest s)) o) c.in-Some.others.now) c.top.ensures in
+    ap (λ l. l ++ drop (c.count_ahead-passed.result + 1) c.args.sources.now) c.rotate_left.ensures.after
+    ∙ rotated rest c.args.sources.now c.in-Some.others.now c.in-Some.first.now c.count_ahead-passed.result c.in-Some.ensures.cases.0 passed

@@ -3,7 +3,7 @@ use Rattle.std.specs.List.{prefix_len}
 use Rattle.tablet_model.specs.Sorted.{first}
 use Rattle.cell_key.specs.Views.{cell_of}
 use Rattle.iter_contract.specs.Several.{comes_before}
-use Rattle.iter_contract.proofs.tops.count_before.Given as goal
+use Rattle.iter_contract.proofs.tops.count_ahead.Given as goal
 
 abbrev pub invariant-loop-place : goal.invariant-loop-place
 invariant-loop-place g l =

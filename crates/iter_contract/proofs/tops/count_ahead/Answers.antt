@@ -3,7 +3,7 @@ use Rattle.std.proofs.lemmas.List.Sums.{prefix_len-drop_all, prefix_len-drop_no,
 use Rattle.tablet_model.specs.Sorted.{first}
 use Rattle.cell_key.specs.Views.{cell_of}
 use Rattle.iter_contract.specs.Several.{comes_before}
-use Rattle.iter_contract.proofs.tops.count_before.Goals as goal
+use Rattle.iter_contract.proofs.tops.count_ahead.Goals as goal
 
 pub loop-place-init : goal.loop-place-init
 loop-place-init g c = zero-add _
