@@ -1,9 +1,8 @@
 -- Texts that are sent in pieces.
-use Rattle.std.proofs.Common.{◌≡◌, ℕ, ◌+◌, ◌≤◌, Option, Some, None, List, [], ◌++◌, length, take, sym, ◌∙◌, ap, arith, append_assoc, append-nil, length-append}
+use Rattle.std.proofs.Common.{◌≡◌, ℕ, ◌+◌, Option, Some, None, List, [], ◌++◌, length, take, sym, ◌∙◌, ap, arith, append_assoc, append-nil, length-append}
 use Rattle.std.proofs.Math.Seq.{take-append-add, take-append_seam}
 use Rattle.std.proofs.lemmas.List.{take-append-le}
-use Rattle.tablet_io.specs.Causes.{Rose}
-use Rattle.tablet_io.specs.Streams.{IsFrontTaken, IsSent, IsTaken}
+use Rattle.tablet_io.specs.Streams.{IsFrontTaken, IsSent}
 
 -- where nothing was sent yet, all stands in the text
 pub unsent : (bytes text : List ℕ) (taken : Option (List ℕ)) → text ≡ bytes → IsSent bytes taken taken text
@@ -60,21 +59,3 @@ sent_front bytes now rest (Some t) between after h k =
       j.2 ∙ ap Some (append_assoc t a (take n now)
           ∙ ap (λ l. t ++ l) (ap (λ l. a ++ l) (sym (take-append-le n now rest j.1)) ∙ sym (ap (take (length a + n)) h.parted.1 ∙ take-append-add a (now ++ rest) n))),
     )
-
--- all of it is sent
-pub sent_all : (bytes text : List ℕ) (before between after : Option (List ℕ)) → IsSent bytes before between text → IsTaken text between after → IsTaken bytes before after
-sent_all bytes text None between after h k = tt
-sent_all bytes text (Some t) between after h k =
-    let a = h.parted.0 in
-    let j : IsTaken text (Some (t ++ a)) after = rw h.parted.2 at k in
-    j ∙ ap Some (append_assoc t a text ∙ ap (λ l. t ++ l) (sym h.parted.1))
-
--- bytes that were taken are sent
-pub taken_sent : (bytes text : List ℕ) (before after : Option (List ℕ)) → IsTaken bytes before after → text ≡ [] → IsSent bytes before after text
-taken_sent bytes text None after h e = record { parted = tt }
-taken_sent bytes text (Some t) after h e =
-    record { parted = (bytes, sym (append-nil bytes) ∙ ap (λ l. bytes ++ l) (sym e), h) }
-
--- a count that rose has risen since before, and stays so
-pub rose_before : (a b c : ℕ) → a ≤ b → Rose b c → Rose a c
-rose_before a b c h k = omega (arith, h, k)
