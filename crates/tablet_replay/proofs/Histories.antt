@@ -1,32 +1,16 @@
 -- Histories, and what their entries may be in.
-use Rattle.std.proofs.Common.{◌≡◌, ℕ, ◌+◌, ◌<◌, arith, take, slice_index_or, List, [], ◌∷◌, ◌++◌, map, length, Option, None, sym, ap, ◌∙◌, subst}
-use Rattle.std.proofs.lemmas.List.{length-map, map-append, take_more}
-use Rattle.std.proofs.lemmas.List.Elements.{filter-append}
-use Rattle.tablet_model.specs.Cell.{Cell}
-use Rattle.tablet_model.specs.Cuts.{Span, within}
-use Rattle.tablet_model.specs.Families.{in_families, is_in}
+use Rattle.std.proofs.Common.{◌≡◌, ℕ, ◌+◌, arith, List, [], ◌∷◌, ◌++◌, map, length, None, sym, ◌∙◌, subst}
+use Rattle.std.proofs.lemmas.List.{length-map, map-append}
 use Rattle.tablet_model.specs.History.{RowChange, history_entries, numbered}
 use Rattle.tablet_model.specs.Ingest.{IsHistory, ingest, out_of_bounds}
-use Rattle.tablet_model.specs.Markers.{live}
 use Rattle.tablet_model.specs.Order.{above}
-use Rattle.tablet_model.specs.Reading.{AreUnmarkedRead}
 use Rattle.tablet_model.specs.Rules.{AreStorable, IsStorable, Rules}
-use Rattle.tablet_model.specs.Sorted.{Ascends}
-use Rattle.tablet_model.specs.Stages.{stages}
-use Rattle.tablet_model.specs.Answers.{answer, scan_of}
-use Rattle.tablet_model.proofs.Histories.{history_ascends}
 use Rattle.tablet_model.proofs.Ingests.{none_first}
 use Rattle.tablet_model.proofs.Merges.{all_sorted}
 use Rattle.tablet_model.proofs.Orders.{above_exact}
-use Rattle.tablet_model.proofs.Sums.{Ascends-filter, all_filter}
 use Rattle.stage_laws.proofs.LetIn.{let_in_append, storable_numbered}
-use Rattle.stage_laws.proofs.Whole.{families_columns, restrict_live}
-use Rattle.iter_config.specs.RulesOf.{rules_of}
-use Rattle.iter_config.specs.Stages.{stages_of}
-use Rattle.iter_config.specs.declared.iter_spec.IterSpec.{IterSpec}
 use Rattle.cell_key.specs.Mutations.{row_change_of}
 use Rattle.cell_key.specs.declared.mutation.Mutation.{Mutation}
-use Rattle.iter_stack.proofs.Stored.{storable_read}
 use Rattle.tablet_replay.specs.Bounds.{IsInBounds}
 
 -- ---- histories

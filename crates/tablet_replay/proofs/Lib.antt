@@ -5,3 +5,4 @@ mod Packs
 pub mod OpenSessions
 pub mod Replaying
 pub mod Scripts
+pub mod Sends

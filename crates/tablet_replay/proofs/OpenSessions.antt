@@ -6,10 +6,9 @@ use Rattle.std.proofs.lemmas.List.{length-map, map-append, take-map, drop-map, m
 use Rattle.std.proofs.lemmas.Option.{slice_get-map}
 use Rattle.tablet_model.specs.Cell.{Cell}
 use Rattle.tablet_model.specs.History.{RowChange}
-use Rattle.tablet_model.specs.Places.{Place, after}
+use Rattle.tablet_model.specs.Places.{after}
 use Rattle.tablet_model.proofs.Merges.{all_append}
 use Rattle.tablet_model.proofs.Sums.{all_weaker}
-use Rattle.iter_config.specs.declared.iter_spec.IterSpec.{IterSpec}
 use Rattle.scan_session.specs.Sessions.{IsFetch, IsSameScan, SessionState, answer_over}
 use Rattle.scan_session.specs.Takes.{moved, taken}
 use Rattle.scan_session.specs.Walks.{end_of, fetched, pieces_of}
@@ -18,7 +17,7 @@ use Rattle.script_text.specs.Answers.{found_text}
 use Rattle.script_text.specs.SessionAnswers.{rest_line}
 use Rattle.tablet_view.specs.Extending.{BeginsWith, Extends}
 use Rattle.tablet_view.specs.Snapshot.{Snapshot}
-use Rattle.tablet_replay.specs.Sessions.{OpenScan, fetch_text, find_session, next_entries, place_of, scanned, session_answer, session_behind, session_rest, with_session, without_session}
+use Rattle.tablet_replay.specs.Sessions.{fetch_text, next_entries, place_of, scanned, session_answer, session_behind, session_rest}
 use Rattle.tablet_replay.specs.StatusText.{piece_text, pieces_text}
 use Rattle.tablet_replay.specs.TabletParts.{ArePinned, IsPinned, open_scan}
 use Rattle.tablet_replay.specs.declared.sessions.OpenSession.{OpenSession}

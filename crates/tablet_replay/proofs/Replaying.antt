@@ -1,15 +1,12 @@
 -- What the program keeps, step by step, and what the text says of it.
-use Rattle.std.proofs.Common.{◌≡◌, ◌==◌, ℕ, ◌<◌, Bool, true, false, cond, List, [], ◌∷◌, ◌++◌, map, length, Option, Some, None, slice_get, refl, sym, ap, ◌∙◌, subst, append_assoc}
-use Rattle.std.specs.Prelude.{filter, flat_map, is_some, option_map, position, remove, slice_set}
-use Rattle.std.specs.List.{AllByRecursion}
+use Rattle.std.proofs.Common.{◌≡◌, ◌==◌, ℕ, Bool, cond, List, [], ◌∷◌, ◌++◌, map, length, Option, Some, None, slice_get, refl, sym, ap, ◌∙◌, subst}
+use Rattle.std.specs.Prelude.{flat_map, is_some, position, remove, slice_set}
 use Rattle.std.proofs.lemmas.List.{map-append}
-use Rattle.tablet_model.specs.Cell.{Cell}
 use Rattle.tablet_model.specs.Cuts.{Span}
 use Rattle.tablet_model.specs.Places.{Start, after}
-use Rattle.tablet_model.specs.Sorted.{sorted}
 use Rattle.tablet_model.specs.Steps.{Event, StepAnswer}
 use Rattle.tablet_model.specs.Store.{File, RunningJob}
-use Rattle.compactor.specs.Jobs.{is_behind, job_of}
+use Rattle.compactor.specs.Jobs.{job_of}
 use Rattle.compactor.specs.declared.job_state.JobState.{JobState}
 use Rattle.scan_session.specs.Sessions.{SessionState, left_of}
 use Rattle.iter_stack.proofs.Written.{within_all}
@@ -26,7 +23,7 @@ use Rattle.tablet_replay.specs.Replay.{Replayed, after_line, if_open, line_answe
 use Rattle.tablet_replay.specs.Sessions.{OpenScan, find_session, place_of, scanned, with_session, without_session}
 use Rattle.tablet_replay.specs.StatusText.{count_lines, state_lines, status_lines}
 use Rattle.tablet_replay.specs.Steps.{file_lines, job_lines, status_text}
-use Rattle.tablet_replay.specs.TabletParts.{ArePinned, TabletState, open_scan, replayed_by}
+use Rattle.tablet_replay.specs.TabletParts.{ArePinned, open_scan, replayed_by}
 use Rattle.tablet_replay.specs.declared.sessions.OpenSession.{OpenSession}
 use Rattle.tablet_replay.proofs.OpenSessions.{all_pinned, none_open, one_open, removed_scan, scan_at, set_scan}
 

@@ -3,6 +3,7 @@ pub mod Refusals
 pub mod Sessions
 pub mod Steps
 pub mod Replay
+pub mod Replies
 pub mod SessionSteps
 pub mod TabletParts
 pub mod StatusText

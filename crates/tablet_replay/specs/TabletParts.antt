@@ -1,8 +1,6 @@
 -- What the program keeps while it replays a script, as what the script has made. All of this is this project's own.
-use Rattle.std.specs.Prelude.{◌≡◌, ℕ, List, [], length, map}
+use Rattle.std.specs.Prelude.{◌≡◌, List, length, map}
 use Rattle.std.specs.List.{AllByRecursion}
-use Rattle.iter_config.specs.declared.iter_spec.IterSpec.{IterSpec}
-use Rattle.scan_session.specs.Sessions.{SessionState}
 use Rattle.tablet_core.specs.State.{CoreState, state_of}
 use Rattle.tablet_view.specs.Extending.{BeginsWith}
 use Rattle.tablet_view.specs.Snapshot.{Snapshot}

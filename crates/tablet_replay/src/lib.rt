@@ -2,6 +2,7 @@
 #![tactic(auto)]
 
 mod history;
+mod outcome;
 mod packing;
 mod refusal;
 mod reply;
@@ -12,4 +13,5 @@ mod showing;
 mod steps;
 mod tablet;
 
-pub use reply::{Reply, pack_reply, replay_reply, show_reply};
+pub use outcome::{Outcome, ReplyError};
+pub use reply::{pack_to, replay_to, show_to};

@@ -7,12 +7,11 @@ ghost use Rattle.iter_config.specs.Order.{IsConfig};
 ghost use Rattle.iter_config.specs.RulesOf.{rules_of};
 ghost use Rattle.script_text.specs.Grammar.{line_of};
 ghost use Rattle.script_text.specs.Lines.{lines_of};
-ghost use Rattle.sorted_file.specs.Image.{image_of};
 ghost use Rattle.tablet_replay.specs.Packing.{history_after, history_behind, is_minor_alone, packed};
 
 use crate::history::History;
 use crate::scan::source_over;
-use cell_key::{ByteText, NoMemory};
+use cell_key::NoMemory;
 use delete_iter::LiveIter;
 use iter_config::{Config, IterSpec};
 use iter_stack::{Usage, compact};
@@ -20,13 +19,12 @@ use script_text::{Line, LineError, Lines, parse_line};
 use sorted_file::SortedFile;
 use std::alloc::Global;
 
-/// The image of what the iterators of compactions make of the mutations of a script.
-pub fn image_of_script(alloc: Global, config: &Config, script: &[u8]) -> Result<ByteText, NoMemory>
-    ensures { IfOk result (λ text. text ≡ image_of (packed config.now (history_behind config.now [] (lines_of script.now)))) }
+/// The file of what the iterators of compactions make of the mutations of a script.
+pub fn file_of_script(alloc: Global, config: &Config, script: &[u8]) -> Result<SortedFile, NoMemory>
+    ensures { IfOk result (λ file. file ≡ packed config.now (history_behind config.now [] (lines_of script.now))) }
 {
     let history = history_of(alloc, config, script)?;
-    let file = packed(alloc, config, &history)?;
-    ByteText::of(alloc, file.bytes())
+    packed(alloc, config, &history)
 }
 
 /// The mutations of a script that come in.

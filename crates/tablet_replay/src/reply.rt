@@ -1,90 +1,113 @@
 // What the commands write for an input.
-ghost use Rattle.std.specs.Prelude.{◌≡◌, true, false, IfOk};
+ghost use Rattle.std.specs.Prelude.{◌≡◌, IfOk};
 ghost use Rattle.tablet_replay.specs.Packing.{pack_text};
 ghost use Rattle.tablet_replay.specs.Replay.{is_refused, replay_text};
+ghost use Rattle.tablet_replay.specs.Replies.{HasCause, Replies, is_refusal};
 ghost use Rattle.tablet_replay.specs.Showing.{is_no_image, show_text};
 
-use crate::packing::image_of_script;
+use crate::outcome::{Outcome, ReplyError};
+use crate::packing::file_of_script;
 use crate::refusal::{config_line, image_line};
-use crate::script::answers_to;
-use crate::showing::shown;
-use cell_key::{ByteText, NoMemory};
+use crate::script::answer_script;
+use crate::showing::show_file;
+use cell_key::ByteText;
 use iter_config::{ConfigError, read_config};
 use script_text::split_input;
 use sorted_file::{OpenError, SortedFile};
 use std::alloc::Global;
 use std::sync::Arc;
+use tablet_io::{Sink, write_all};
 
-/// What is written for an input, and whether that says why the input is refused.
-#[derive(Drop)]
-pub struct Reply {
-    pub text: ByteText,
-    pub refused: bool,
+/// Writes all bytes of a reply, and tells its outcome.
+fn write_bytes<O: Sink>(
+    bytes: &[u8],
+    outcome: Outcome,
+    output: &mut O,
+) -> Result<Outcome, ReplyError>
+    ensures text { Replies bytes.now (O.taken output.old) (O.taken output.new) result }
+    ensures outcome { IfOk result (λ told. told ≡ outcome) }
+    ensures cause { HasCause (O.faults output.old) (O.faults output.new) result }
+{
+    write_all(output, bytes)?;
+    Ok(outcome)
 }
 
-impl Reply {
-    fn accepted(text: ByteText) -> Reply
-        ensures { result ≡ record { text = text; refused = false } }
-    {
-        Reply {
-            text,
-            refused: false,
-        }
-    }
-
-    fn refused(text: ByteText) -> Reply
-        ensures { result ≡ record { text = text; refused = true } }
-    {
-        Reply {
-            text,
-            refused: true,
-        }
-    }
-}
-
-/// The answers to a script under its configuration, or why the configuration is refused. It takes memory for the store, the sessions
-/// and the whole text.
+/// Writes the answers to a script under its configuration, or why the configuration is refused. They go out in pieces while the script
+/// runs: it takes memory for the store, the sessions, the entries of a fetch and a piece.
+///
+/// After an error a prefix of the text was taken, and `Write` comes only where the sink's count of faults rose in this call.
 #[tactic(auto, unfolding(crate::specs::Replay::replay_text))]
-pub fn replay_reply(alloc: Global, input: &[u8]) -> Result<Reply, NoMemory>
-    ensures text { IfOk result (λ reply. reply.text ≡ replay_text input.now) }
-    ensures refused { IfOk result (λ reply. reply.refused ≡ is_refused input.now) }
+pub fn replay_to<O: Sink>(
+    alloc: Global,
+    input: &[u8],
+    output: &mut O,
+) -> Result<Outcome, ReplyError>
+    ensures text { Replies (replay_text input.now) (O.taken output.old) (O.taken output.new) result }
+    ensures refused { IfOk result (λ outcome. is_refusal outcome ≡ is_refused input.now) }
+    ensures cause { HasCause (O.faults output.old) (O.faults output.new) result }
 {
     let (config, script) = split_input(input);
     match read_config(alloc, config) {
-        Ok(config) => Ok(Reply::accepted(answers_to(alloc, config, script)?)),
-        Err(ConfigError::Refused { rule, at }) => {
-            Ok(Reply::refused(config_line(alloc, rule, at)?))
+        Ok(config) => {
+            answer_script(alloc, config, script, output)?;
+            Ok(Outcome::Answered)
         }
-        Err(ConfigError::NoMemory) => Err(NoMemory),
+        Err(ConfigError::Refused { rule, at }) => {
+            let why = config_line(alloc, rule, at)?;
+            write_bytes(why.bytes(), Outcome::Refused, output)
+        }
+        Err(ConfigError::NoMemory) => Err(ReplyError::NoMemory),
     }
 }
 
-/// The image of what the iterators of compactions make of the live entries of a script's mutations, or why the configuration is
+/// Writes the image of what the iterators of compactions make of the live entries of a script's mutations, or why the configuration is
 /// refused. Other lines, and mutations that are refused, have no effect. It takes memory for the mutations and the image.
+///
+/// After an error a prefix of the text was taken, and `Write` comes only where the sink's count of faults rose in this call.
 #[tactic(auto, unfolding(crate::specs::Packing::pack_text))]
-pub fn pack_reply(alloc: Global, input: &[u8]) -> Result<Reply, NoMemory>
-    ensures text { IfOk result (λ reply. reply.text ≡ pack_text input.now) }
-    ensures refused { IfOk result (λ reply. reply.refused ≡ is_refused input.now) }
+pub fn pack_to<O: Sink>(alloc: Global, input: &[u8], output: &mut O) -> Result<Outcome, ReplyError>
+    ensures text { Replies (pack_text input.now) (O.taken output.old) (O.taken output.new) result }
+    ensures refused { IfOk result (λ outcome. is_refusal outcome ≡ is_refused input.now) }
+    ensures cause { HasCause (O.faults output.old) (O.faults output.new) result }
 {
     let (config, script) = split_input(input);
     match read_config(alloc, config) {
-        Ok(config) => Ok(Reply::accepted(image_of_script(alloc, &config, script)?)),
-        Err(ConfigError::Refused { rule, at }) => {
-            Ok(Reply::refused(config_line(alloc, rule, at)?))
+        Ok(config) => {
+            let file = file_of_script(alloc, &config, script)?;
+            write_bytes(file.bytes(), Outcome::Answered, output)
         }
-        Err(ConfigError::NoMemory) => Err(NoMemory),
+        Err(ConfigError::Refused { rule, at }) => {
+            let why = config_line(alloc, rule, at)?;
+            write_bytes(why.bytes(), Outcome::Refused, output)
+        }
+        Err(ConfigError::NoMemory) => Err(ReplyError::NoMemory),
     }
 }
 
-/// The entries of an image and how many they are, or why the input is no image. It takes memory for the text.
+/// Writes the entries of an image and how many they are, or why the input is no image. They go out in pieces: it takes memory for a
+/// piece.
+///
+/// After an error a prefix of the text was taken, and `Write` comes only where the sink's count of faults rose in this call.
 #[tactic(auto, unfolding(crate::specs::Showing::show_text))]
-pub fn show_reply(alloc: Global, input: ByteText) -> Result<Reply, NoMemory>
-    ensures text { IfOk result (λ reply. reply.text ≡ show_text input) }
-    ensures refused { IfOk result (λ reply. reply.refused ≡ is_no_image input) }
+pub fn show_to<O: Sink>(
+    alloc: Global,
+    input: ByteText,
+    output: &mut O,
+) -> Result<Outcome, ReplyError>
+    ensures text { Replies (show_text input) (O.taken output.old) (O.taken output.new) result }
+    ensures refused { IfOk result (λ outcome. is_refusal outcome ≡ is_no_image input) }
+    ensures cause { HasCause (O.faults output.old) (O.faults output.new) result }
 {
     match SortedFile::open(alloc, input) {
-        Ok(file) => Ok(Reply::accepted(shown(alloc, Arc::new(alloc, file)?)?)),
-        Err(OpenError::Image { at, cause }) => Ok(Reply::refused(image_line(alloc, cause, at)?)),
-        Err(OpenError::NoMemory) => Err(NoMemory),
+        Ok(file) => {
+            let file = Arc::new(alloc, file)?;
+            show_file(alloc, file, output)?;
+            Ok(Outcome::Answered)
+        }
+        Err(OpenError::Image { at, cause }) => {
+            let why = image_line(alloc, cause, at)?;
+            write_bytes(why.bytes(), Outcome::Refused, output)
+        }
+        Err(OpenError::NoMemory) => Err(ReplyError::NoMemory),
     }
 }

@@ -1,18 +1,22 @@
-// What scans and fetches found, as it is written.
-ghost use Rattle.std.specs.Prelude.{◌≡◌, ◌++◌, OnOk, IfOk};
+// What scans and fetches found, as it is written: line by line into a text, which is sent where it is long.
+ghost use Rattle.std.specs.Prelude.{◌≡◌, ◌++◌, IfOk};
 ghost use Rattle.tablet_model.specs.Order.{above};
 ghost use Rattle.tablet_model.specs.Sorted.{Ascends};
+ghost use Rattle.cell_key.specs.Views.{cell_of};
 ghost use Rattle.iter_contract.specs.VecRest.{vec_cells};
-ghost use Rattle.script_text.specs.Answers.{entry_lines, scan_text};
+ghost use Rattle.script_text.specs.Answers.{entry_line, entry_lines, scan_text};
 ghost use Rattle.script_text.specs.SessionAnswers.{rest_line};
-ghost use Rattle.tablet_replay.specs.StatusText.{pieces_text};
+ghost use Rattle.tablet_replay.specs.Replies.{HasCause, Sends};
+ghost use Rattle.tablet_replay.specs.StatusText.{piece_text, pieces_text};
 
-use cell_key::{ByteText, Entries, NoMemory};
+use crate::outcome::ReplyError;
+use cell_key::{ByteText, Entries, EntryRef, NoMemory};
 use iter_contract::{SortedSource, VecSource};
 use scan_session::{Fetched, Piece};
 use script_text::{append_at, append_end, append_entry, append_rest};
 use std::alloc::Global;
 use std::sync::Arc;
+use tablet_io::{Sink, send_full};
 
 /// A source over entries that are in order.
 pub fn source_over(alloc: Global, entries: Entries) -> Result<VecSource, NoMemory>
@@ -23,64 +27,112 @@ pub fn source_over(alloc: Global, entries: Entries) -> Result<VecSource, NoMemor
     Ok(VecSource::new(entries))
 }
 
-/// Appends the text of a scan that finds what a source has left, over so many mutations.
+/// Sends the text of a scan that finds what a source has left, over so many mutations.
 #[tactic(auto, unfolding(script_text::specs::Answers::found_text))]
-pub fn append_found<S: SortedSource>(
+pub fn send_found<S: SortedSource, O: Sink>(
     alloc: Global,
     mutations: u64,
     source: &mut S,
     text: &mut ByteText,
-) -> Result<(), NoMemory>
+    output: &mut O,
+) -> Result<(), ReplyError>
     requires { S.valid source.old }
-    ensures { OnOk result (text.new ≡ text.old ++ scan_text mutations (S.rest source.old)) }
+    ensures bytes { Sends (text.old ++ scan_text mutations (S.rest source.old)) (O.taken output.old) (O.taken output.new) text.new result }
+    ensures cause { HasCause (O.faults output.old) (O.faults output.new) result }
 {
     if source.top().is_none() {
-        return append_end(alloc, text, mutations);
+        return Ok(append_end(alloc, text, mutations)?);
     }
     append_at(alloc, text, mutations)?;
-    append_lines(alloc, source, text)?;
-    append_end(alloc, text, mutations)
+    send_lines(alloc, source, text, output)?;
+    Ok(append_end(alloc, text, mutations)?)
 }
 
-/// Appends the lines of the entries that a source has left.
-pub fn append_lines<S: SortedSource>(
+/// Sends the lines of the entries that a source has left.
+pub fn send_lines<S: SortedSource, O: Sink>(
     alloc: Global,
     source: &mut S,
     text: &mut ByteText,
-) -> Result<(), NoMemory>
+    output: &mut O,
+) -> Result<(), ReplyError>
     requires { S.valid source.old }
-    ensures { OnOk result (text.new ≡ text.old ++ entry_lines (S.rest source.old)) }
+    ensures bytes { Sends (text.old ++ entry_lines (S.rest source.old)) (O.taken output.old) (O.taken output.new) text.new result }
+    ensures cause { HasCause (O.faults output.old) (O.faults output.new) result }
 {
     while let Some(entry) = source.top() {
-        append_entry(alloc, text, entry)?;
+        send_entry(alloc, entry, text, output)?;
         source.next()?;
     }
     Ok(())
 }
 
-fn append_entries(alloc: Global, text: &mut ByteText, entries: &Entries) -> Result<(), NoMemory>
-    ensures { OnOk result (text.new ≡ text.old ++ entry_lines entries.now) }
+/// Sends the line of an entry.
+fn send_entry<O: Sink>(
+    alloc: Global,
+    entry: EntryRef<'_>,
+    text: &mut ByteText,
+    output: &mut O,
+) -> Result<(), ReplyError>
+    ensures bytes { Sends (text.old ++ entry_line (cell_of entry.entry)) (O.taken output.old) (O.taken output.new) text.new result }
+    ensures cause { HasCause (O.faults output.old) (O.faults output.new) result }
+{
+    append_entry(alloc, text, entry)?;
+    Ok(send_full(text, output)?)
+}
+
+fn send_entries<O: Sink>(
+    alloc: Global,
+    entries: &Entries,
+    text: &mut ByteText,
+    output: &mut O,
+) -> Result<(), ReplyError>
+    ensures bytes { Sends (text.old ++ entry_lines entries.now) (O.taken output.old) (O.taken output.new) text.new result }
+    ensures cause { HasCause (O.faults output.old) (O.faults output.new) result }
 {
     for entry in entries.as_slice() {
-        append_entry(alloc, text, entry.entry())?;
+        send_entry(alloc, entry.entry(), text, output)?;
     }
     Ok(())
 }
 
-fn append_pieces(alloc: Global, text: &mut ByteText, pieces: &[Piece]) -> Result<(), NoMemory>
-    ensures { OnOk result (text.new ≡ text.old ++ pieces_text pieces.now) }
+fn send_piece<O: Sink>(
+    alloc: Global,
+    piece: &Piece,
+    text: &mut ByteText,
+    output: &mut O,
+) -> Result<(), ReplyError>
+    ensures bytes { Sends (text.old ++ piece_text piece.now) (O.taken output.old) (O.taken output.new) text.new result }
+    ensures cause { HasCause (O.faults output.old) (O.faults output.new) result }
+{
+    append_at(alloc, text, piece.n)?;
+    send_entries(alloc, &piece.entries, text, output)
+}
+
+fn send_pieces<O: Sink>(
+    alloc: Global,
+    pieces: &[Piece],
+    text: &mut ByteText,
+    output: &mut O,
+) -> Result<(), ReplyError>
+    ensures bytes { Sends (text.old ++ pieces_text pieces.now) (O.taken output.old) (O.taken output.new) text.new result }
+    ensures cause { HasCause (O.faults output.old) (O.faults output.new) result }
 {
     for piece in pieces {
-        append_at(alloc, text, piece.n)?;
-        append_entries(alloc, text, &piece.entries)?;
+        send_piece(alloc, piece, text, output)?;
     }
     Ok(())
 }
 
-/// Appends what a fetch gave.
-pub fn append_fetched(alloc: Global, text: &mut ByteText, fetched: &Fetched) -> Result<(), NoMemory>
-    ensures { OnOk result (text.new ≡ text.old ++ pieces_text fetched.now.pieces ++ rest_line fetched.now.ended) }
+/// Sends what a fetch gave.
+pub fn send_fetched<O: Sink>(
+    alloc: Global,
+    fetched: &Fetched,
+    text: &mut ByteText,
+    output: &mut O,
+) -> Result<(), ReplyError>
+    ensures bytes { Sends (text.old ++ (pieces_text fetched.now.pieces ++ rest_line fetched.now.ended)) (O.taken output.old) (O.taken output.new) text.new result }
+    ensures cause { HasCause (O.faults output.old) (O.faults output.new) result }
 {
-    append_pieces(alloc, text, fetched.pieces.as_slice())?;
-    append_rest(alloc, text, fetched.ended)
+    send_pieces(alloc, fetched.pieces.as_slice(), text, output)?;
+    Ok(append_rest(alloc, text, fetched.ended)?)
 }

@@ -1,38 +1,50 @@
 // What `show` writes of an image.
-ghost use Rattle.std.specs.Prelude.{◌≡◌, ◌++◌, Ok, IfOk, OnOk};
+ghost use Rattle.std.specs.Prelude.{◌++◌, Ok};
 ghost use Rattle.std.specs.Arc.{arc_value};
 ghost use Rattle.script_text.specs.Answers.{entry_lines};
+ghost use Rattle.tablet_replay.specs.Replies.{HasCause, Replies, Sends};
 ghost use Rattle.tablet_replay.specs.Showing.{shown};
 
-use crate::scan::append_lines;
-use cell_key::{ByteText, NoMemory};
+use crate::outcome::ReplyError;
+use crate::scan::send_lines;
+use cell_key::ByteText;
 use iter_contract::SortedSource;
 use iter_stack::ALL_KEYS;
 use script_text::append_count;
 use sorted_file::SortedFile;
 use std::alloc::Global;
 use std::sync::Arc;
+use tablet_io::{Sink, send_all};
 
-/// The entries of a file, line by line, and how many they are.
-pub fn shown(alloc: Global, file: Arc<SortedFile>) -> Result<ByteText, NoMemory>
-    ensures { IfOk result (λ text. text ≡ shown (Ok (arc_value file))) }
+/// Writes the entries of a file, line by line, and how many they are.
+pub fn show_file<O: Sink>(
+    alloc: Global,
+    file: Arc<SortedFile>,
+    output: &mut O,
+) -> Result<(), ReplyError>
+    ensures text { Replies (shown (Ok (arc_value file))) (O.taken output.old) (O.taken output.new) result }
+    ensures cause { HasCause (O.faults output.old) (O.faults output.new) result }
 {
     let mut text = ByteText::new(alloc);
-    append_all(alloc, SortedFile::cursor(alloc, &file)?, &mut text)?;
+    let cursor = SortedFile::cursor(alloc, &file)?;
+    send_cells(alloc, cursor, &mut text, output)?;
     append_count(alloc, &mut text, file.count())?;
-    Ok(text)
+    send_all(&mut text, output)?;
+    Ok(())
 }
 
-/// Appends the lines of all entries of a source.
-fn append_all<S: SortedSource>(
+/// Sends the lines of all entries of a source.
+fn send_cells<S: SortedSource, O: Sink>(
     alloc: Global,
     source: S,
     text: &mut ByteText,
-) -> Result<(), NoMemory>
+    output: &mut O,
+) -> Result<(), ReplyError>
     requires { S.valid source }
-    ensures { OnOk result (text.new ≡ text.old ++ entry_lines (S.cells source)) }
+    ensures bytes { Sends (text.old ++ entry_lines (S.cells source)) (O.taken output.old) (O.taken output.new) text.new result }
+    ensures cause { HasCause (O.faults output.old) (O.faults output.new) result }
 {
     let mut source = source;
     source.seek(&ALL_KEYS)?;
-    append_lines(alloc, &mut source, text)
+    send_lines(alloc, &mut source, text, output)
 }

@@ -5,9 +5,11 @@ ghost use Rattle.scan_session.specs.Takes.{mode_of};
 ghost use Rattle.tablet_core.specs.Said.{event_of};
 ghost use Rattle.tablet_core.specs.State.{empty_core};
 ghost use Rattle.tablet_replay.specs.Replay.{after_step, step_answer_text};
+ghost use Rattle.tablet_replay.specs.Replies.{HasCause, Sends};
 ghost use Rattle.tablet_replay.specs.TabletParts.{replayed_by};
 
-use crate::scan::{append_fetched, append_found};
+use crate::outcome::ReplyError;
+use crate::scan::{send_fetched, send_found};
 use crate::sessions::{OpenSession, Sessions};
 use crate::steps::{append_answer, append_status};
 use cell_key::{ByteText, Families, NoMemory, RangeBuf};
@@ -20,6 +22,7 @@ use std::alloc::Global;
 use std::marker::Model;
 use std::sync::Arc;
 use tablet_core::{Core, Event};
+use tablet_io::Sink;
 use tablet_view::View;
 
 /// What a script has made: the store, and the sessions that are open on its views.
@@ -110,20 +113,22 @@ impl Tablet {
         append_status(alloc, text, &status)
     }
 
-    /// Appends what a scan finds: a session that is opened, read whole and closed.
-    pub fn scan(
+    /// Sends what a scan finds: a session that is opened, read whole and closed.
+    pub fn scan<O: Sink>(
         &self,
         alloc: Global,
         range: &RangeBuf,
         families: &Families,
         text: &mut ByteText,
-    ) -> Result<(), NoMemory>
-        ensures { OnOk result (text.new ≡ text.old ++ scan_text (length (replayed_by self.now).log)
-            (scanned (replayed_by self.now).config range.now families.now (replayed_by self.now).log)) }
+        output: &mut O,
+    ) -> Result<(), ReplyError>
+        ensures bytes { Sends (text.old ++ scan_text (length (replayed_by self.now).log)
+            (scanned (replayed_by self.now).config range.now families.now (replayed_by self.now).log)) (O.taken output.old) (O.taken output.new) text.new result }
+        ensures cause { HasCause (O.faults output.old) (O.faults output.new) result }
     {
         let session = session_on(&self.core, alloc, range, families, false)?;
         let mut rest = session.remaining(alloc)?;
-        append_found(alloc, session.n(), &mut rest, text)
+        send_found(alloc, session.n(), &mut rest, text, output)
     }
 
     /// Opens a session on the present view, unless one of this number is open.
@@ -151,25 +156,27 @@ impl Tablet {
         }
     }
 
-    /// Appends the next entries of a session, `count` of them.
-    pub fn fetch(
+    /// Sends the next entries of a session, `count` of them.
+    pub fn fetch<O: Sink>(
         &mut self,
         alloc: Global,
         number: u32,
         count: u32,
         text: &mut ByteText,
-    ) -> Result<(), NoMemory>
+        output: &mut O,
+    ) -> Result<(), ReplyError>
         requires { 1 ≤ count }
-        ensures text { OnOk result (text.new ≡ text.old ++ line_answer (replayed_by self.old) (Some (line.Fetch number count))) }
+        ensures bytes { Sends (text.old ++ line_answer (replayed_by self.old) (Some (line.Fetch number count))) (O.taken output.old) (O.taken output.new) text.new result }
+        ensures cause { HasCause (O.faults output.old) (O.faults output.new) result }
         ensures state { OnOk result (replayed_by self.new ≡ after_line (replayed_by self.old) (Some (line.Fetch number count))) }
         ensures version { OnOk result (self.new.core.view.version ≡ self.old.core.view.version) }
     {
         match self.sessions.place_of(number) {
             Some(i) => {
                 let fetched = self.sessions.fetch_at(alloc, i, count)?;
-                append_fetched(alloc, text, &fetched)
+                send_fetched(alloc, &fetched, text, output)
             }
-            None => append_refusal(alloc, text, &Refusal::NoSession(number)),
+            None => Ok(append_refusal(alloc, text, &Refusal::NoSession(number))?),
         }
     }
 

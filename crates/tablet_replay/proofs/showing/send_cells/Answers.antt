@@ -1,9 +1,10 @@
-use Rattle.std.proofs.Common.{◌≡◌, ◌++◌, OnOk, subst, ◌∙◌}
+use Rattle.std.proofs.Common.{◌++◌, subst, ◌∙◌}
 use Rattle.script_text.specs.Answers.{entry_lines}
 use Rattle.iter_stack.proofs.Written.{within_all}
-use Rattle.tablet_replay.proofs.showing.append_all.Goals as goal
+use Rattle.tablet_replay.specs.Replies.{Sends}
+use Rattle.tablet_replay.proofs.showing.send_cells.Goals as goal
 
-pub returns : goal.returns
-returns g c =
-    subst (λ list. OnOk c.append_lines.result (c.append_lines.new.text ≡ c.args.text.now ++ entry_lines list))
-    (c.in_ok-seek.ensures.rest ∙ within_all (g.S.SortedSource.cells c.args.source)) c.append_lines.ensures
+pub returns-clause-bytes : goal.returns-clause-bytes
+returns-clause-bytes g c =
+    subst (λ list. Sends (c.args.text.now ++ entry_lines list) (g.O.Sink.taken c.args.output.now) (g.O.Sink.taken c.send_lines.new.output) c.send_lines.new.text c.send_lines.result)
+    (c.in_ok-seek.ensures.rest ∙ within_all (g.S.SortedSource.cells c.args.source)) c.send_lines.ensures.bytes
