@@ -1,7 +1,7 @@
 -- What each status says of the source and of the sink. All of this is this project's own.
-use Rattle.std.specs.Prelude.{◌≡◌, ℕ, Bool, true, false, ◌≤◌, ◌<◌, Option, Some, None, List, [], ◌++◌, length, IfSome, ⊤}
+use Rattle.std.specs.Prelude.{◌≡◌, ◌⊎◌, ℕ, Bool, true, false, ◌≤◌, ◌<◌, Option, Some, None, List, [], length, IfSome, ⊤}
 use Rattle.tablet_io.specs.Causes.{Rose}
-use Rattle.tablet_io.specs.Streams.{Took, IsFrontTaken}
+use Rattle.tablet_io.specs.Streams.{Took, IsFrontTaken, IsTaken}
 use Rattle.tablet_io.specs.declared.status.Status.{Status}
 use Rattle.tablet_io.specs.declared.status.Status.TheVariants.{Done, Usage, BadConfig, ReadFault, WriteFault, NoMemory, TooLong, BadImage}
 use Rattle.tablet_replay.specs.Packing.{pack_text}
@@ -44,19 +44,19 @@ WasTooLong i bytes = (n : ℕ) × (max_input < n) × Took n bytes i.after
 
 -- a text was appended to what the sink had taken
 abbrev pub IsWritten : Port → List ℕ → Type 0
-IsWritten o text = IfSome o.before (λ taken. o.after ≡ Some (taken ++ text))
+IsWritten o text = IsTaken text o.before o.after
 
 -- a prefix of it was
 abbrev pub IsFrontWritten : Port → List ℕ → Type 0
 IsFrontWritten o text = IsFrontTaken text o.before o.after
 
 -- what a command does that reads an input, by its status: over a source that tells its bytes the text is that of these bytes, and its
--- end is theirs, unless a fault or want of memory comes between
+-- end is theirs, unless a fault or want of memory comes between: then nothing was written, or the first bytes of the text
 abbrev pub Answers : (List ℕ → List ℕ) → (List ℕ → Status) → Port → Port → Status → Type 0
 Answers text end i o WriteFault = HasFault o × IfSome i.before (λ bytes. WasRead i bytes × IsFrontWritten o (text bytes))
 Answers text end i o ReadFault = HasFault i × IsUntouched o
 Answers text end i o TooLong = IfSome i.before (WasTooLong i) × IsUntouched o
-Answers text end i o NoMemory = IsUntouched o
+Answers text end i o NoMemory = IsUntouched o ⊎ IfSome i.before (λ bytes. WasRead i bytes × IsFrontWritten o (text bytes))
 Answers text end i o Usage = ⊥
 Answers text end i o status = IfSome i.before (λ bytes. WasRead i bytes × (end bytes ≡ status) × IsWritten o (text bytes))
 

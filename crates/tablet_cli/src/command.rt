@@ -5,11 +5,11 @@ ghost use Rattle.tablet_cli.specs.declared.command_word.Command.TheVariants.{Rep
 
 use crate::command_word::{Command, command_of};
 use crate::reply::{end_of, reply_to};
-use cell_key::NoMemory;
 use std::alloc::Global;
 use std::sync::Wait;
 use std::thread::Threads;
 use tablet_io::{Gate, ReadError, Sink, Source, Status, WriteFault, read_all, write_all};
+use tablet_replay::ReplyError;
 
 /// How many bytes an input has at the most.
 pub const MAX_INPUT: usize = 8_388_608;
@@ -32,13 +32,10 @@ fn perform<I: Source, O: Sink>(
         Err(ReadError::TooLong) => return Status::TooLong,
         Err(ReadError::NoMemory) => return Status::NoMemory,
     };
-    let reply = match reply_to(command, alloc, bytes) {
-        Ok(reply) => reply,
-        Err(NoMemory) => return Status::NoMemory,
-    };
-    match write_all(output, reply.text.bytes()) {
-        Ok(_) => end_of(command, reply.refused),
-        Err(WriteFault) => Status::WriteFault,
+    match reply_to(command, alloc, bytes, output) {
+        Ok(outcome) => end_of(command, outcome),
+        Err(ReplyError::Write) => Status::WriteFault,
+        Err(ReplyError::NoMemory) => Status::NoMemory,
     }
 }
 

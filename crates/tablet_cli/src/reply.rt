@@ -1,34 +1,39 @@
 // What the commands write for an input, and how they end.
 ghost use Rattle.std.specs.Prelude.{◌≡◌, IfOk};
+ghost use Rattle.tablet_replay.specs.Replies.{HasCause, Replies, is_refusal};
 ghost use Rattle.tablet_cli.specs.Outcome.{command_text, end_of, refuses};
 
 use crate::command_word::Command;
-use cell_key::{ByteText, NoMemory};
+use cell_key::ByteText;
 use std::alloc::Global;
-use tablet_io::Status;
-use tablet_replay::{Reply, pack_reply, replay_reply, show_reply};
+use tablet_io::{Sink, Status};
+use tablet_replay::{Outcome, ReplyError, pack_to, replay_to, show_to};
 
-/// The reply of a command to an input.
-pub fn reply_to(command: Command, alloc: Global, input: ByteText) -> Result<Reply, NoMemory>
-    ensures text { IfOk result (λ reply. reply.text ≡ command_text command input) }
-    ensures refused { IfOk result (λ reply. reply.refused ≡ refuses command input) }
+/// Writes the reply of a command to an input.
+pub fn reply_to<O: Sink>(
+    command: Command,
+    alloc: Global,
+    input: ByteText,
+    output: &mut O,
+) -> Result<Outcome, ReplyError>
+    ensures text { Replies (command_text command input) (O.taken output.old) (O.taken output.new) result }
+    ensures refused { IfOk result (λ outcome. is_refusal outcome ≡ refuses command input) }
+    ensures cause { HasCause (O.faults output.old) (O.faults output.new) result }
 {
     match command {
-        Command::Replay => replay_reply(alloc, input.bytes()),
-        Command::Pack => pack_reply(alloc, input.bytes()),
-        Command::Show => show_reply(alloc, input),
+        Command::Replay => replay_to(alloc, input.bytes(), output),
+        Command::Pack => pack_to(alloc, input.bytes(), output),
+        Command::Show => show_to(alloc, input, output),
     }
 }
 
-/// How a command ends that refuses its input, or doesn't.
-pub fn end_of(command: Command, refused: bool) -> Status
-    ensures { result ≡ end_of command refused }
+/// How a command ends that answers its input, or refuses it.
+pub fn end_of(command: Command, outcome: Outcome) -> Status
+    ensures { result ≡ end_of command (is_refusal outcome) }
 {
-    if !refused {
-        return Status::Done;
-    }
-    match command {
-        Command::Replay | Command::Pack => Status::BadConfig,
-        Command::Show => Status::BadImage,
+    match (outcome, command) {
+        (Outcome::Answered, _) => Status::Done,
+        (Outcome::Refused, Command::Replay | Command::Pack) => Status::BadConfig,
+        (Outcome::Refused, Command::Show) => Status::BadImage,
     }
 }

@@ -70,6 +70,53 @@ fn faults_have_their_status(rt: HostRuntime) -> Result<(), NoMemory> {
     Ok(())
 }
 
+/// A mutation of a value of some thousand bytes.
+fn long_mutation(alloc: Global) -> Result<ByteText, NoMemory> {
+    let mut bytes = ByteText::of(alloc, b"%%\nm r1 +a:x:=")?;
+    for _ in 0..6_000 {
+        bytes.push(b'v')?;
+    }
+    bytes.append(b"\n")?;
+    Ok(bytes)
+}
+
+/// A mutation and so many scans that the answers are longer than a piece.
+fn long_script(alloc: Global) -> Result<MemSource, NoMemory> {
+    let mut bytes = long_mutation(alloc)?;
+    for _ in 0..12 {
+        bytes.append(b"scan\n")?;
+    }
+    Ok(MemSource::new(bytes, 1000, Calls::none()))
+}
+
+/// How a replay of the long script ends where this call of the sink fails, and the sink.
+fn long_run(alloc: Global, failing: u64) -> Result<(Status, MemSink), NoMemory> {
+    let mut input = long_script(alloc)?;
+    let failing = Calls::of(alloc, &[failing])?;
+    let mut output = MemSink::new(alloc, 100_000, 100_000, failing)?;
+    let status = replay(alloc, &mut input, &mut output);
+    Ok((status, output))
+}
+
+/// Whether a text was written, and of it the first piece alone.
+fn is_cut_off(whole: &(Status, MemSink), cut: &(Status, MemSink)) -> bool {
+    let text = whole.1.bytes();
+    let front = cut.1.bytes();
+    whole.0 == Status::Done
+        && cut.0 == Status::WriteFault
+        && 65_536 <= front.len()
+        && front.len() < text.len()
+        && text.starts_with(front)
+}
+
+#[test]
+fn a_long_text_goes_out_in_pieces(rt: HostRuntime) -> Result<(), NoMemory> {
+    let whole = long_run(rt.alloc(), 0)?;
+    let cut = long_run(rt.alloc(), 2)?;
+    assert!(rt; is_cut_off(&whole, &cut));
+    Ok(())
+}
+
 /// A comment of one byte more than an input may have.
 fn too_long(alloc: Global) -> Result<MemSource, NoMemory> {
     let mut bytes = ByteText::of(alloc, b"#")?;
