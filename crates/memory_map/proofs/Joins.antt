@@ -2,13 +2,13 @@
 use Rattle.std.proofs.Common.{◌≡◌, ℕ, zero, suc, ◌+◌, ◌-◌, ◌*◌, ◌/◌, ◌^◌, ◌<◌, ◌≤◌, Bool, true, false, cond, List, [], ◌∷◌, ◌++◌, length, take, drop, get_or, refl, sym, ◌∙◌, ap, subst, append_assoc, append-nil, length-append, arith}
 use Rattle.std.proofs.Math.Nat.{pow-le-pow_right, lt_of_not-le}
 use Rattle.std.proofs.lemmas.Grind.{flat_map-append}
-use Rattle.std.proofs.lemmas.List.{drop-map, get_or_default, get_or-take, length-map, length-take-le, take-append-drop, take-map}
+use Rattle.std.proofs.lemmas.List.{drop-map, get_or_default, get_or-map, get_or-take, length-map, length-take-le, take-append-drop, take-map}
 use Rattle.std.proofs.lemmas.List.Concat.{length-flat_map}
 use Rattle.std.proofs.lemmas.List.Sums.{sum_by-cons, sum_by-drop_more, sum_by-take-drop}
 use Rattle.std.specs.Arc.{arc_value}
 use Rattle.std.specs.List.{AllByRecursion, flat_map, sum_by}
 use Rattle.std.specs.declared.sync.Arc.{Arc}
-use Rattle.iter_contract.proofs.Elements.{all_read, map_read}
+use Rattle.iter_contract.proofs.Elements.{all_read}
 use Rattle.tablet_model.specs.Cell.{Cell}
 use Rattle.tablet_model.specs.Order.{above}
 use Rattle.tablet_model.specs.Runs.{AreHalving, first_size}
@@ -75,14 +75,14 @@ below_64 lists r =
 -- each is in order
 pub order_read : {Z : Type 0} (runs : List (Arc (List Cell) Z)) (i : ℕ) (r : Arc (List Cell) Z) → AllByRecursion (Ascends above) (lists_of runs) → i < length runs → r ≡ get_or runs i r → Ascends above (arc_value r)
 order_read runs i r h l is =
-    subst (Ascends above) (map_read (λ x. arc_value x) runs i r [] l ∙ ap (λ x. arc_value x) (sym is))
+    subst (Ascends above) (get_or-map (λ x. arc_value x) runs i r [] l ∙ ap (λ x. arc_value x) (sym is))
     (all_read (Ascends above) (lists_of runs) i [] h (omega (arith, l, length-map runs (λ x. arc_value x))))
 
 -- ---- how many join
 
 -- the length of the run at a place
 length_read : {Z : Type 0} (runs : List (Arc (List Cell) Z)) (i : ℕ) (r : Arc (List Cell) Z) → i < length runs → r ≡ get_or runs i r → length (get_or (lists_of runs) i []) ≡ length (arc_value r)
-length_read runs i r l is = ap length (map_read (λ x. arc_value x) runs i r [] l ∙ ap (λ x. arc_value x) (sym is))
+length_read runs i r l is = ap length (get_or-map (λ x. arc_value x) runs i r [] l ∙ ap (λ x. arc_value x) (sym is))
 
 -- one run more joins
 pub one_more : {Z : Type 0} (runs : List (Arc (List Cell) Z)) (kept size added : ℕ) (r : Arc (List Cell) Z) → 0 < kept → kept ≤ length runs → r ≡ get_or runs (kept - 1) r
