@@ -159,7 +159,14 @@ fn have_log_runs(alloc: Global, runs: [u32; 4]) -> Result<bool, Fail> {
     let one = grown(alloc, &none, b'r', &[(b's', Some(b'1'))])?;
     let two = grown(alloc, &one, b's', &[(b's', Some(b'1'))])?;
     let three = grown(alloc, &two, b'r', &[(b's', Some(b'1'))])?;
-    Ok([none.log_runs(), one.log_runs(), two.log_runs(), three.log_runs()] == runs)
+    Ok(
+        [
+            none.log_runs(),
+            one.log_runs(),
+            two.log_runs(),
+            three.log_runs(),
+        ] == runs,
+    )
 }
 
 #[test]

@@ -29,8 +29,7 @@ loop-before-preserved c =
     let older = c.pop.new.self.items in
     let before = c.in-Some.before in
     let last = c.loop-before.last in
-    let were = c.in-Some.ensures.items in
-    (
+    let were = c.in-Some.ensures.items in (
       ap (λ l. all_in older ++ l) c.in_ok-last.ensures ∙ sym (end_joined older before last) ∙ ap (λ l. all_in l ++ last) (sym were) ∙ c.loop-before.invariant.0,
       halving_front (λ run. length run) older (before ∷ []) (subst (AreHalving (λ run. length run)) were c.loop-before.invariant.1),
       omega (arith, ap length c.in_ok-last.ensures, length-append before last, c.loop-before.invariant.2),

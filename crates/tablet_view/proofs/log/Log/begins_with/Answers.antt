@@ -11,8 +11,7 @@ returns-then-self-other c =
     let ns = all_in c.other.inside.runs.items in
     let count = c.other.invariant.1 in
     let here : take c.other.inside.count (all_in c.deref.result.now) ≡ take (length ns) ms = λ i. take (count i) (all_in (c.deref.ensures.value i)) in
-    let there : take c.other.inside.count (all_in c.deref-then-self-other.result.now) ≡ take (length ns) ns = λ i. take (count i) (all_in (c.deref-then-self-other.ensures.value i)) in
-    (
+    let there : take c.other.inside.count (all_in c.deref-then-self-other.result.now) ≡ take (length ns) ns = λ i. take (count i) (all_in (c.deref-then-self-other.ensures.value i)) in (
       λ t. subst (λ l. BeginsWith l c.args.other.now) c.self.view_is (subst (BeginsWith (map row_change_of ms)) c.other.view_is (begins_first ms ns (sym here ∙ c.begin_alike.ensures.0 t ∙ there))),
       λ b. c.begin_alike.ensures.1 (here ∙ first_begins ms ns (subst (λ l. BeginsWith l (map row_change_of ns)) (sym c.self.view_is) (subst (BeginsWith c.args.self.now) (sym c.other.view_is) b)) ∙ sym there),
     )
