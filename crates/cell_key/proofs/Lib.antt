@@ -1,4 +1,5 @@
 pub mod Spelling
+pub mod RowFirst
 pub mod Sorting
 pub mod Numbering
 pub mod Gathered

@@ -1,7 +1,12 @@
 -- An entry, as its parts in one run of bytes.
-use Rattle.std.specs.Prelude.{ℕ, ◌≤◌, ◌-◌, List, take, drop, length}
+use Rattle.std.specs.Prelude.{ℕ, ◌≤◌, ◌-◌, ◌++◌, List, take, drop, length}
+use Rattle.std.specs.Arc.{arc_value}
 use Rattle.tablet_model.specs.Cell.{Cell}
-use Rattle.cell_key.specs.declared.entry_block.EntryBlock.TheInside.{Inside}
+use Rattle.cell_key.specs.declared.entry.Entry.TheInside.{Inside}
+
+-- the parts of an entry, one behind the other
+abbrev pub joined_parts : Cell → List ℕ
+joined_parts e = (((e.key.row ++ e.key.family) ++ e.key.qualifier) ++ e.key.visibility) ++ e.value
 
 -- the bytes from one place up to another
 abbrev pub between : ℕ → ℕ → List ℕ → List ℕ
@@ -11,14 +16,14 @@ between from to bytes = take (to - from) (drop from bytes)
 abbrev pub packed_cell : Inside → Cell
 packed_cell b = record {
   key = record {
-    row = take b.row b.bytes.items;
-    family = between b.row b.family b.bytes.items;
-    qualifier = between b.family b.qualifier b.bytes.items;
-    visibility = between b.qualifier b.visibility b.bytes.items;
+    row = take b.row (arc_value b.bytes).items;
+    family = between b.row b.family (arc_value b.bytes).items;
+    qualifier = between b.family b.qualifier (arc_value b.bytes).items;
+    visibility = between b.qualifier b.visibility (arc_value b.bytes).items;
     time = b.time;
     deleted = b.deleted;
   };
-  value = drop b.visibility b.bytes.items;
+  value = drop b.visibility (arc_value b.bytes).items;
 }
 
 -- the ends are in order, and the parts within bounds
@@ -26,7 +31,7 @@ pub record IsPacked (b : Inside) : Type 0 where
   pub order_row : b.row ≤ b.family
   pub order_family : b.family ≤ b.qualifier
   pub order_qualifier : b.qualifier ≤ b.visibility
-  pub order_visibility : b.visibility ≤ length b.bytes.items
+  pub order_visibility : b.visibility ≤ length (arc_value b.bytes).items
   pub row_some : 1 ≤ b.row
   pub row_bound : b.row ≤ 1024
   pub family_bound : b.family - b.row ≤ 1024

@@ -5,7 +5,6 @@ ghost use Rattle.tablet_model.specs.Sorted.{Ascends, sorted};
 
 use crate::entry::Entry;
 use crate::no_memory::NoMemory;
-use crate::order::compare_entries;
 use std::alloc::Global;
 use std::marker::Model;
 
@@ -82,8 +81,7 @@ impl Entries {
         ensures ascends { OnOk result (Ascends above self.new) }
         ensures unchanged { OnErr result (self.new ≡ self.old) }
     {
-        self.entries
-            .sort_by(|a, b| compare_entries(a.entry(), b.entry()))?;
+        self.entries.sort_by(|a, b| a.compare(b))?;
         Ok(())
     }
 

@@ -6,7 +6,6 @@ mod column_name;
 mod cuts;
 mod entries;
 mod entry;
-mod entry_block;
 mod escape_laws;
 mod escaping;
 mod families;
