@@ -1,4 +1,4 @@
--- A kept bound, as a cut.
+-- A kept bound, as a cut. All of this is this project's own.
 use Rattle.std.specs.Prelude.{ℕ, ℤ, ◌≤◌, Bool, List, Option, Some, None, IsSome, length, vec_capacity, ⊤}
 use Rattle.tablet_model.specs.Cell.{Column, CellKey}
 use Rattle.tablet_model.specs.Columns.{with_time}

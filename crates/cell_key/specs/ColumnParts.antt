@@ -1,4 +1,4 @@
--- A kept column, as its parts in one run of bytes.
+-- A kept column, as its parts in one run of bytes. All of this is this project's own.
 use Rattle.std.specs.Prelude.{ℕ, ◌≡◌, ◌≤◌, ◌-◌, true, List, Option, Some, None, if◌then◌else◌, take, drop, length, vec_capacity}
 use Rattle.tablet_model.specs.Cell.{Column}
 use Rattle.tablet_model.specs.Bounds.{KeyBounds}

@@ -1,4 +1,4 @@
--- An entry, as its parts in one run of bytes.
+-- An entry, as its parts in one run of bytes. All of this is this project's own.
 use Rattle.std.specs.Prelude.{ℕ, ◌≤◌, ◌-◌, ◌++◌, List, take, drop, length}
 use Rattle.std.specs.Arc.{arc_value}
 use Rattle.tablet_model.specs.Cell.{Cell}

@@ -1,4 +1,4 @@
--- What updates and mutations of the code say.
+-- What updates and mutations of the code say. All of this is this project's own.
 use Rattle.std.specs.Prelude.{map, None}
 use Rattle.tablet_model.specs.History.{Change, RowChange}
 use Rattle.cell_key.specs.declared.mutation.Update.{Update}

@@ -1,4 +1,4 @@
--- How long the row of a bound may be.
+-- How long the row of a bound may be. All of this is this project's own.
 use Rattle.std.specs.Prelude.{ℕ, ◌≤◌, length}
 use Rattle.cell_key.specs.declared.range.Bound.{Bound}
 use Rattle.cell_key.specs.declared.range.Bound.TheVariants.{Open, At, Past, Row, PastRow}

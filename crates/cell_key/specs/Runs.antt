@@ -1,4 +1,4 @@
--- Bytes that are copied in runs, and those between them.
+-- Bytes that are copied in runs, and those between them. All of this is this project's own.
 use Rattle.std.specs.Prelude.{ℕ, Bool, ◌&&◌, not, ◌==◌, List, [], ◌∷◌, ◌++◌, codes}
 use Rattle.std.specs.List.{prefix_len}
 use Rattle.hex.specs.Hex.{encode_lower}

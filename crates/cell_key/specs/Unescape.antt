@@ -1,4 +1,4 @@
--- What the code answers where a text spells bytes, and where it doesn't.
+-- What the code answers where a text spells bytes, and where it doesn't. All of this is this project's own.
 use Rattle.std.specs.Prelude.{◌≡◌, ℕ, List, Result, Ok, Err, ⊤}
 use Rattle.cell_key.specs.declared.unescaping.TextError.{TextError}
 use Rattle.cell_key.specs.declared.unescaping.TextError.TheVariants.{Fault, NoMemory}

@@ -1,4 +1,4 @@
--- Borrowed keys and entries as the records of the model.
+-- Borrowed keys and entries as the records of the model. All of this is this project's own.
 use Rattle.tablet_model.specs.Cell.{CellKey, Cell}
 use Rattle.cell_key.specs.declared.key_ref.KeyRef.{KeyRef}
 use Rattle.cell_key.specs.declared.key_ref.EntryRef.{EntryRef}

@@ -1,3 +1,4 @@
+//! A column that is kept in memory reserved beforehand.
 ghost use Rattle.std.specs.Prelude.{◌≡◌, ◌≤◌, ◌+◌, ◌++◌, length, IfOk, IsSome, Some, None, vec_capacity};
 ghost use Rattle.cell_key.specs.Views.{key_of};
 ghost use Rattle.tablet_model.specs.Cell.{column_of};

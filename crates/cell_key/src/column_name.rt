@@ -1,3 +1,4 @@
+//! Names of columns, and lists of them.
 ghost use Rattle.std.specs.Prelude.{◌≡◌, IfOk};
 ghost use Rattle.cell_key.specs.Listed.{is_named, is_listed};
 

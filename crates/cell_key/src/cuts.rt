@@ -1,4 +1,4 @@
-// The tests of a cut, of which a range's tests are made.
+//! The tests of a cut, of which a range's tests are made.
 ghost use Rattle.std.specs.Prelude.{◌≡◌, ◌&&◌};
 ghost use Rattle.tablet_model.specs.Cell.{CellKey};
 ghost use Rattle.tablet_model.specs.Cuts.{is_behind, is_before, is_row_reached};

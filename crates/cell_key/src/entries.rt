@@ -1,3 +1,4 @@
+//! Lists of entries.
 ghost use Rattle.std.specs.Prelude.{◌≡◌, ◌↔◌, ◌<◌, IsTrue, Some, [], ◌∷◌, ◌++◌, length, slice_get, is_ok, if◌then◌else◌, IfOk, OnOk, OnErr};
 ghost use Rattle.tablet_model.specs.Bounds.{AreEntries};
 ghost use Rattle.tablet_model.specs.Order.{above};

@@ -1,3 +1,4 @@
+//! Owned entries, which share their bytes.
 ghost use Rattle.std.specs.Prelude.{◌≡◌, IfOk};
 ghost use Rattle.cell_key.specs.EntryParts.{joined_parts};
 ghost use Rattle.cell_key.specs.Views.{cell_of};

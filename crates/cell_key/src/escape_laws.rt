@@ -1,3 +1,4 @@
+//! That unescaping takes back what escaping wrote.
 ghost use Rattle.std.specs.Prelude.{◌≡◌, ℕ, List, Ok};
 ghost use Rattle.hex.specs.Hex.{IsBytes};
 ghost use Rattle.cell_key.specs.Escape.{escape_of, unescape_of};

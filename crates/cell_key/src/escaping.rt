@@ -1,3 +1,4 @@
+//! Bytes written as printable text.
 ghost use Rattle.std.specs.Prelude.{◌≡◌, ◌≤◌, ◌++◌, length, not, position, IfOk, OnOk};
 ghost use Rattle.cell_key.specs.Escape.{escape_of, is_kept};
 ghost use Rattle.cell_key.specs.Runs.{digits_of, kept_run};

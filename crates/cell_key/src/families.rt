@@ -1,3 +1,4 @@
+//! Lists of names, and the families that a scan chooses.
 ghost use Rattle.std.specs.Prelude.{◌≡◌, ◌<◌, ◌≤◌, Some, None, length, IfOk};
 ghost use Rattle.tablet_model.specs.Families.{has_family};
 

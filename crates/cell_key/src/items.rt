@@ -1,3 +1,4 @@
+//! Lists of any elements, and of bytes.
 ghost use Rattle.std.specs.Prelude.{◌≡◌, ◌↔◌, ◌<◌, IsTrue, [], ◌∷◌, ◌++◌, Some, length, slice_get, is_ok, if◌then◌else◌, IfOk};
 
 use crate::no_memory::NoMemory;

@@ -1,3 +1,4 @@
+//! Owned keys, and why some parts make none.
 ghost use Rattle.std.specs.Prelude.{◌≡◌, IfOk, IfErr, OnOk, None};
 ghost use Rattle.cell_key.specs.Views.{key_of};
 ghost use Rattle.cell_key.specs.Made.{key_from, first_out, refusal_of};

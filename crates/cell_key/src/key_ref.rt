@@ -1,3 +1,4 @@
+//! Borrowed keys and entries.
 // Alone in its file, since a struct with ghost fields imports whatever its file does.
 ghost use Rattle.tablet_model.specs.Bounds.{KeyBounds, IsTime};
 

@@ -1,4 +1,4 @@
-// Keys, entries and mutations in code, their order, ranges of keys, lists of these, and escaped bytes.
+//! Keys, entries and mutations in code, their order, ranges of keys, lists of these, and escaped bytes.
 #![tactic(auto)]
 
 mod column_buf;

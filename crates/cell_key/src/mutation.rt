@@ -1,3 +1,4 @@
+//! Changes of one row that come in together.
 ghost use Rattle.std.specs.Prelude.{◌≡◌, ◌↔◌, IsTrue, IfOk};
 
 use crate::items::{ByteText, Items};

@@ -1,3 +1,4 @@
+//! Want of memory, as each call here tells it.
 use std::alloc::{AllocError, AllocFailed};
 use thiserror::Error;
 

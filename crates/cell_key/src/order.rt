@@ -1,3 +1,4 @@
+//! The order of columns, keys and entries.
 ghost use Rattle.std.specs.Prelude.{◌≡◌, Some};
 ghost use Rattle.tablet_model.specs.Cell.{column_of};
 ghost use Rattle.tablet_model.specs.Columns.{is_column};

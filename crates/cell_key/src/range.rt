@@ -1,3 +1,4 @@
+//! Borrowed ranges of keys, their bounds and positions in them.
 use crate::cuts::{lies_before, lies_behind, start_after};
 use crate::items::ByteText;
 use crate::key::Key;

@@ -1,3 +1,4 @@
+//! A range that is kept in memory reserved beforehand.
 ghost use Rattle.std.specs.Prelude.{◌≡◌, IfOk};
 ghost use Rattle.tablet_model.specs.Cuts.{Everything};
 ghost use Rattle.cell_key.specs.Ranges.{cut_of, span_of};

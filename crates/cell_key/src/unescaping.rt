@@ -1,3 +1,4 @@
+//! Printable text read back as bytes, or the place of its first fault.
 ghost use Rattle.std.specs.Prelude.{◌≡◌, ◌≤◌, ◌++◌, take, length, not, position, IfOk};
 ghost use Rattle.cell_key.specs.Escape.{behind_backslash, pair_byte, spelled, unescape_of};
 ghost use Rattle.cell_key.specs.Runs.{is_plain, plain_run};

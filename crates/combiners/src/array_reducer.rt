@@ -1,3 +1,4 @@
+//! Arrays that are added.
 ghost use Rattle.std.specs.Prelude.{◌≡◌, true};
 ghost use Rattle.number_values.specs.Arrays.{array_text};
 

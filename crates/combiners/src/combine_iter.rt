@@ -1,3 +1,4 @@
+//! The combining iterator.
 use crate::reducer::Reducer;
 use crate::stage::CombineStage;
 use crate::steps::{combine_next, combine_seek, combine_top};

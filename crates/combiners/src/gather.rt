@@ -1,4 +1,4 @@
-// A combiner's pass over a source, without ends of a range.
+//! A combiner's pass over a source, without ends of a range.
 ghost use Rattle.std.specs.Prelude.{◌≡◌, ◌<◌, true, Some, None, IsOk, IfOk, length, option_map};
 ghost use Rattle.tablet_model.specs.Cell.{column_of};
 ghost use Rattle.tablet_model.specs.Columns.{is_column};

@@ -1,4 +1,4 @@
-// Combiners: the values of a listed column become one, over any source and by any reducer.
+//! Combiners: the values of a listed column become one, over any source and by any reducer.
 #![tactic(auto)]
 
 mod array_reducer;

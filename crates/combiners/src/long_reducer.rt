@@ -1,3 +1,4 @@
+//! Numbers that are added, or of which the least or the greatest stays.
 ghost use Rattle.std.specs.Prelude.{◌≡◌, true};
 ghost use Rattle.combiners.specs.Joins.{is_join, join_text};
 

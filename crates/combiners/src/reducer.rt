@@ -1,3 +1,4 @@
+//! The trait of reducers, which users may implement.
 ghost use Rattle.std.specs.Prelude.{◌≡◌, ℤ, Bool, true, List, Option, Some, None, IsSome, IsOk, is_ok, if◌then◌else◌, IfOk, option_map};
 ghost use Rattle.tablet_model.specs.Reductions.{Reduction, IsLawful};
 

@@ -1,3 +1,4 @@
+//! What a combiner keeps between calls.
 ghost use Rattle.std.specs.Prelude.{◌≡◌, false, IfOk};
 ghost use Rattle.std.specs.Arc.{arc_value};
 

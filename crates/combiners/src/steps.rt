@@ -1,3 +1,4 @@
+//! Seeks and steps of a combiner over any source.
 ghost use Rattle.std.specs.Prelude.{◌≡◌, ◌<◌, true, [], IsOk, is_ok, if◌then◌else◌, length, option_map};
 ghost use Rattle.std.specs.Arc.{arc_value};
 ghost use Rattle.tablet_model.specs.Cuts.{within, Everything};

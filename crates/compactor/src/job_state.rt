@@ -1,3 +1,4 @@
+//! What a running job is known by.
 ghost use Rattle.std.specs.Prelude.{◌≡◌, IfOk};
 
 use cell_key::{FileIds, Items, NoMemory};

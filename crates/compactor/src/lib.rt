@@ -1,4 +1,4 @@
-// Compactions: jobs, and which files each running one has.
+//! Compactions: jobs, and which files each running one has.
 #![tactic(auto)]
 
 mod job_state;

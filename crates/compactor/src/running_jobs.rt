@@ -1,3 +1,4 @@
+//! Which files each running job has.
 ghost use Rattle.std.specs.Prelude.{◌≡◌, [], ◌∷◌, ◌++◌, eqb, is_ok, map, not, option_map, if◌then◌else◌, IfOk, OnOk};
 ghost use Rattle.std.specs.List.{filter};
 ghost use Rattle.tablet_model.specs.Sorted.{put, sorted};

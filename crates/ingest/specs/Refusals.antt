@@ -1,4 +1,4 @@
--- Refusals of the code as those of the model.
+-- Refusals of the code as those of the model. All of this is this project's own.
 use Rattle.tablet_model.specs.Ingest as model
 use Rattle.tablet_model.specs.Ingest.{Refusal, bound, duplicate, delete_here, bad_value, full_log}
 use Rattle.cell_key.specs.declared.key.Part.{Part}

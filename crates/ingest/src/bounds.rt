@@ -1,4 +1,4 @@
-// The first check: the bounds of a mutation's parts.
+//! The first check: the bounds of a mutation's parts.
 ghost use Rattle.std.specs.Prelude.{◌≡◌, ◌≤◌, None, length, map, option_map};
 ghost use Rattle.tablet_model.specs.Ingest.{first_too_long, out_of_bounds, too_long};
 ghost use Rattle.cell_key.specs.Mutations.{change_of, row_change_of};

@@ -1,4 +1,4 @@
-// The checks of what a mutation does, and all checks in their order.
+//! The checks of what a mutation does, and all checks in their order.
 ghost use Rattle.std.specs.Prelude.{◌≡◌, ◌≤◌, [], length, map, option_map};
 ghost use Rattle.std.specs.List.{list_any};
 ghost use Rattle.tablet_model.specs.Ingest.{first_twice, first_where, ingest, is_twin};

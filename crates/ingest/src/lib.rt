@@ -1,4 +1,4 @@
-// Which mutations come in: the checks, each over the whole mutation before the next.
+//! Which mutations come in: the checks, each over the whole mutation before the next.
 #![tactic(auto)]
 
 mod bounds;

@@ -1,3 +1,4 @@
+//! Why a mutation stays out.
 use cell_key::Part;
 
 /// Why a mutation stays out. `at` is the number of the first update that breaks the check, counted from 1, or 0 for the

@@ -1,4 +1,4 @@
--- Configured iterators as stages of the model.
+-- Configured iterators as stages of the model. All of this is this project's own.
 use Rattle.std.specs.Prelude.{List, map}
 use Rattle.cell_key.specs.Listed.{column_listed}
 use Rattle.number_values.specs.Values.{reduction_of}

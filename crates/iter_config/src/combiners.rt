@@ -1,4 +1,4 @@
-// The combiners that tables describe.
+//! The combiners that tables describe.
 ghost use Rattle.std.specs.Prelude.{◌≡◌, IfOk};
 ghost use Rattle.toml.specs.Data.{get_member};
 ghost use Rattle.toml.specs.View.{table_view};

@@ -1,3 +1,4 @@
+//! Accepted configurations.
 ghost use Rattle.std.specs.Prelude.{◌≡◌, ◌↔◌, ◌<◌, IsTrue, Some, length, slice_get};
 ghost use Rattle.std.specs.List.{list_all, list_any};
 ghost use Rattle.iter_config.specs.Columns.{kind_reads, kind_refuses, reads_value, refuses_delete};

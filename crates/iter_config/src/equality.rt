@@ -1,4 +1,4 @@
-// Which iterators are equal.
+//! Which iterators are equal.
 ghost use Rattle.std.specs.Prelude.{◌≡◌, ◌↔◌, IsTrue};
 
 use crate::iter_spec::{IterSpec, Kind};

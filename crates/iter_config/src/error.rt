@@ -1,3 +1,4 @@
+//! Why a configuration is refused.
 use cell_key::NoMemory;
 use std::alloc::AllocFailed;
 use thiserror::Error;

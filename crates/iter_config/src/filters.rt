@@ -1,4 +1,4 @@
-// The filters that tables describe.
+//! The filters that tables describe.
 ghost use Rattle.std.specs.Prelude.{◌≡◌, IfOk};
 ghost use Rattle.toml.specs.View.{table_view};
 ghost use Rattle.iter_config.specs.Faults.{Gives};

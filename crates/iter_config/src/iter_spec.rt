@@ -1,3 +1,4 @@
+//! What one iterator is configured as.
 use crate::predicate::Predicate;
 use cell_key::{ByteText, Columns};
 use number_values::{Encoding, Op};

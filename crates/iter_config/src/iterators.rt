@@ -1,4 +1,4 @@
-// The iterators that tables describe.
+//! The iterators that tables describe.
 ghost use Rattle.std.specs.Prelude.{◌≡◌, ◌≤◌, IfOk, All, length, map, codes};
 ghost use Rattle.toml.specs.View.{array_view, table_view, view};
 ghost use Rattle.iter_config.specs.Faults.{Gives, Reads};

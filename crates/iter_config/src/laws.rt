@@ -1,4 +1,4 @@
-// Laws of configurations as rules of a store.
+//! Laws of configurations as rules of a store.
 ghost use Rattle.std.specs.Prelude.{◌≡◌, ℕ, false, not, ◌&&◌, List, [], None, is_some, unwrap_or};
 ghost use Rattle.tablet_model.specs.Cell.{Cell};
 ghost use Rattle.tablet_model.specs.History.{Change, RowChange, is_delete};

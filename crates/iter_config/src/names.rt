@@ -1,4 +1,4 @@
-// Escaped names, and the names of columns.
+//! Escaped names, and the names of columns.
 ghost use Rattle.std.specs.Prelude.{◌≡◌, ◌≤◌, ◌==◌, IfOk, IfSome, All, length, option_map, position};
 ghost use Rattle.toml.specs.Data.{as_str, get_member};
 ghost use Rattle.toml.specs.View.{array_view, table_view, view};

@@ -1,3 +1,4 @@
+//! The tests of filters.
 ghost use Rattle.std.specs.Prelude.{◌≡◌, IfOk};
 ghost use Rattle.iter_config.specs.Predicates.{is_of_column};
 

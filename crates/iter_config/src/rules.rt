@@ -1,4 +1,4 @@
-// The rules between two iterators, and the first iterator that breaks one.
+//! The rules between two iterators, and the first iterator that breaks one.
 ghost use Rattle.std.specs.Prelude.{◌≡◌, ◌==◌, ◌<◌, ◌≤◌, IfSome, length, position};
 ghost use Rattle.std.specs.List.{list_any};
 ghost use Rattle.cell_key.specs.declared.column_name.ColumnName.{ColumnName};

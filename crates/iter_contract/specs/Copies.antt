@@ -1,4 +1,4 @@
--- What new sources and deep copies have.
+-- What new sources and deep copies have. All of this is this project's own.
 use Rattle.std.specs.Prelude.{◌≡◌, List, [], Bool}
 use Rattle.tablet_model.specs.Cell.{Cell}
 

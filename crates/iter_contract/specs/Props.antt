@@ -1,4 +1,4 @@
--- A list is in order, and within bounds, in one way at most, so that a source can keep these facts.
+-- A list is in order, and within bounds, in one way at most, so that a source can keep these facts. All of this is this project's own.
 use Rattle.std.specs.Prelude.{◌≡◌, false, List, [], ◌∷◌}
 use Rattle.std.specs.Coded.{×_prop, Unit-prop, Coded-set, coded_bool}
 use Rattle.std.specs.List.{AllByRecursion-prop}

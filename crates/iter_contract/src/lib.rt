@@ -1,4 +1,4 @@
-// Sorted sources of entries: what each promises, and one over a list.
+//! Sorted sources of entries: what each promises, and one over a list.
 #![tactic(auto)]
 
 mod search;

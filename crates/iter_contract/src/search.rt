@@ -1,4 +1,4 @@
-// Where the ends of a range lie in a sorted list.
+//! Where the ends of a range lie in a sorted list.
 ghost use Rattle.std.specs.Prelude.{◌≡◌, ◌≤◌, length, filter, take, drop};
 ghost use Rattle.tablet_model.specs.Order.{above};
 ghost use Rattle.tablet_model.specs.Sorted.{Ascends};

@@ -1,4 +1,4 @@
-// Several sources, kept in the order of their tops, so that they are read as one.
+//! Several sources, kept in the order of their tops, so that they are read as one.
 ghost use Rattle.std.specs.Prelude.{◌≡◌, ◌<◌, true, map, length, IsOk, IfOk, OnOk, option_map};
 ghost use Rattle.std.specs.List.{AllByRecursion};
 ghost use Rattle.tablet_model.specs.Cuts.{within};

@@ -1,3 +1,4 @@
+//! The trait of sorted sources.
 ghost use Rattle.std.specs.Prelude.{◌≡◌, ◌<◌, List, [], Bool, true, length, is_ok, IsOk, IfOk, if◌then◌else◌, option_map};
 ghost use Rattle.tablet_model.specs.Cell.{Cell};
 ghost use Rattle.tablet_model.specs.Order.{above};

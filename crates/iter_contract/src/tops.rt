@@ -1,4 +1,4 @@
-// The order of several sources by their tops.
+//! The order of several sources by their tops.
 ghost use Rattle.std.specs.Prelude.{◌≡◌, ◌<◌, length, option_map};
 ghost use Rattle.std.specs.List.{AllByRecursion, prefix_len};
 ghost use Rattle.tablet_model.specs.Sorted.{first, sorted};

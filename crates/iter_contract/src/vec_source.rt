@@ -1,3 +1,4 @@
+//! A sorted source over a shared list.
 ghost use Rattle.std.specs.Prelude.{◌≤◌, length};
 ghost use Rattle.std.specs.Arc.{arc_value};
 ghost use Rattle.tablet_model.specs.Order.{above};

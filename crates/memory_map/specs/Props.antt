@@ -1,4 +1,4 @@
--- Lists are in order in one way at most, so that a cursor can keep this fact.
+-- Lists are in order in one way at most, so that a cursor can keep this fact. All of this is this project's own.
 use Rattle.std.specs.Prelude.{◌≡◌, Bool, true, false, List, [], ◌∷◌}
 use Rattle.std.specs.Coded.{×_prop, Unit-prop, Coded-set, coded_bool}
 use Rattle.std.specs.List.{AllByRecursion-prop}

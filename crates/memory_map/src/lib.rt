@@ -1,4 +1,4 @@
-// The entries that a tablet holds in memory: a map to which mutations add, and cursors over it.
+//! The entries that a tablet holds in memory: a map to which mutations add, and cursors over it.
 #![tactic(auto)]
 
 mod mem_cursor;

@@ -1,3 +1,4 @@
+//! Cursors over a map.
 ghost use Rattle.std.specs.Prelude.{◌≡◌, true, map};
 ghost use Rattle.iter_contract.specs.Several.{AreOrdered};
 ghost use Rattle.iter_contract.specs.VecRest.{vec_rest};

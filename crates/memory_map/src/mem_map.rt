@@ -1,3 +1,4 @@
+//! The map of the entries in memory.
 ghost use Rattle.std.specs.Prelude.{◌≡◌, ◌+◌, ◌^◌, ◌≤◌, [], None, length, IfOk};
 ghost use Rattle.tablet_model.specs.History.{entries_of};
 ghost use Rattle.tablet_model.specs.Ingest.{out_of_bounds};

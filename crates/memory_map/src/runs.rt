@@ -1,4 +1,4 @@
-// The runs of a map, of which each is at least twice as long as the next.
+//! The runs of a map, of which each is at least twice as long as the next.
 ghost use Rattle.std.specs.Prelude.{◌≡◌, ℕ, ◌+◌, ◌*◌, ◌^◌, ◌<◌, ◌≤◌, None, [], ◌∷◌, ◌++◌, drop, get_or, length, IfOk};
 ghost use Rattle.std.specs.List.{sum_by};
 ghost use Rattle.tablet_model.specs.History.{entries_of};

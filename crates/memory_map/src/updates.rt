@@ -1,4 +1,4 @@
-// The entries that a mutation adds.
+//! The entries that a mutation adds.
 ghost use Rattle.std.specs.Prelude.{◌≡◌, ◌++◌, None, OnOk};
 ghost use Rattle.tablet_model.specs.Bounds.{KeyBounds};
 ghost use Rattle.tablet_model.specs.History.{entries_of, entry_of};

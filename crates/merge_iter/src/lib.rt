@@ -1,4 +1,4 @@
-// The sorted union of any number of sources.
+//! The sorted union of any number of sources.
 #![tactic(auto)]
 
 mod merge;

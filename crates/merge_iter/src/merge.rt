@@ -1,3 +1,4 @@
+//! Several sources as one.
 use cell_key::{EntryRef, NoMemory, Range};
 use iter_contract::{SortedSource, copies, first_top, seek_all, step_first};
 use std::alloc::Global;

@@ -1,3 +1,4 @@
+//! Arrays of numbers, and how they are added.
 ghost use Rattle.std.specs.Prelude.{◌≡◌, ◌≤◌, ◌++◌, ◌∷◌, [], true, length, take, drop, OnOk};
 ghost use Rattle.number_values.specs.Numbers.{is_number, text_of};
 ghost use Rattle.number_values.specs.Arrays.{spells_array, separator, array_in, array_sum, array_text};

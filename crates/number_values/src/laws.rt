@@ -1,3 +1,4 @@
+//! That values are joined in any order, and are short.
 ghost use Rattle.std.specs.Prelude.{◌≡◌, ◌≤◌, ℤ, List, true, length};
 ghost use Rattle.tablet_model.specs.Reductions.{IsLawful};
 ghost use Rattle.number_values.specs.Values.{reduction_of};

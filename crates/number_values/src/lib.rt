@@ -1,4 +1,4 @@
-// Numbers as values of entries: how they are spelled, and what an operation makes of two.
+//! Numbers as values of entries: how they are spelled, and what an operation makes of two.
 #![tactic(auto)]
 
 mod arrays;

@@ -1,3 +1,4 @@
+//! Operations and encodings of numbers.
 ghost use Rattle.std.specs.Prelude.{◌≡◌, true};
 ghost use Rattle.number_values.specs.Numbers.{is_number, is_some_number, number_in, joined_number};
 ghost use Rattle.number_values.specs.Values.{reduction_of};

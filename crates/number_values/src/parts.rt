@@ -1,3 +1,4 @@
+//! An array's bytes, cut at its first number.
 ghost use Rattle.std.specs.Prelude.{◌≡◌, ◌==◌, ◌∷◌, ◌<◌, length, position, IfSome};
 ghost use Rattle.std.specs.Option.{option_copied};
 ghost use Rattle.number_values.specs.Arrays.{parts_of, parts_left};

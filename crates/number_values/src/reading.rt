@@ -1,3 +1,4 @@
+//! Numbers read from the bytes of a value.
 ghost use Rattle.std.specs.Prelude.{◌≡◌, ◌≤◌, length};
 ghost use Rattle.std.specs.Str.Parse.{without_leading_sign};
 ghost use Rattle.number_values.specs.Numbers.{number_in, fixed_in, decimal_in};

@@ -1,3 +1,4 @@
+//! Numbers written as the bytes of a value.
 ghost use Rattle.std.specs.Prelude.{◌≡◌, ◌≤◌, [], length};
 ghost use Rattle.number_values.specs.Numbers.{text_of};
 

@@ -1,3 +1,4 @@
+//! Images and cursors over files.
 ghost use Rattle.std.specs.Prelude.{◌≡◌, ◌≤◌, true, false, length, option_map};
 ghost use Rattle.cell_key.specs.Views.{cell_of};
 ghost use Rattle.sorted_file.specs.Lists.{is_out_of_order, longest_value};

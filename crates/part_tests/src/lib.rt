@@ -1,4 +1,4 @@
-// Tests of what a tablet's parts give: the map in memory, sorted files, and the union of several sources.
+//! Tests of what a tablet's parts give: the map in memory, sorted files, and the union of several sources.
 #![tactic(auto)]
 
 #[cfg(test)]

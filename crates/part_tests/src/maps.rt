@@ -1,3 +1,4 @@
+//! Maps in memory and their runs.
 ghost use Rattle.std.specs.Prelude.{◌≡◌, None, length, IfOk};
 ghost use Rattle.tablet_model.specs.Ingest.{out_of_bounds, too_long};
 ghost use Rattle.cell_key.specs.Mutations.{change_of, row_change_of};

@@ -1,3 +1,4 @@
+//! Several sources as one.
 use crate::fixtures::{key, leaves, range};
 use cell_key::{Bound, Entries, Entry, EntryRef, NoMemory};
 use iter_contract::{SortedSource, VecSource};

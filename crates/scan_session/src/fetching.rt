@@ -1,4 +1,4 @@
-// What a fetch gives of a source, and over which view.
+//! What a fetch gives of a source, and over which view.
 ghost use Rattle.std.specs.Prelude.{◌≡◌, ◌++◌, true, false, Some, List, IfOk, OnOk};
 ghost use Rattle.std.specs.Arc.{arc_value};
 ghost use Rattle.std.specs.Option.{ForSome};

@@ -1,4 +1,4 @@
-// Scan sessions: what a reader is given piece by piece while mutations come in, and the laws of such walks.
+//! Scan sessions: what a reader is given piece by piece while mutations come in, and the laws of such walks.
 #![tactic(auto)]
 
 mod fetching;

@@ -1,3 +1,4 @@
+//! Pieces, and what a fetch gives.
 ghost use Rattle.std.specs.Prelude.{◌≡◌, IfOk};
 ghost use Rattle.scan_session.specs.Walks.{pieces_of};
 

@@ -1,4 +1,4 @@
-// Runs of entries that are taken out of a source, and where a reader stands behind them.
+//! Runs of entries that are taken out of a source, and where a reader stands behind them.
 ghost use Rattle.std.specs.Prelude.{◌≡◌, ◌++◌, IfOk};
 ghost use Rattle.std.specs.Option.{ForSome};
 ghost use Rattle.tablet_model.specs.Places.{Place};

@@ -1,3 +1,4 @@
+//! Where newer views may come from.
 ghost use Rattle.std.specs.Prelude.{◌≡◌, ℕ, ◌≤◌, Bool, true, false, Option, None, IfOk, OnOk, OnErr};
 ghost use Rattle.tablet_io.specs.Causes.{Rose};
 ghost use Rattle.tablet_view.specs.Snapshot.{Snapshot};

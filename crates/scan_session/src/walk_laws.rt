@@ -1,3 +1,4 @@
+//! The laws of walks and fetches.
 ghost use Rattle.scan_session.specs.WalkLaws.{NothingIsSkipped, WalksAreWhole, WalksJoin, FetchesWalk, RestIsLeft, EnoughIsTaken, NoMoreIsTaken};
 
 /// At one number of mutations a walk gives each entry once and skips none, and walks join.

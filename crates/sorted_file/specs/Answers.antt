@@ -1,4 +1,4 @@
--- What the code has of bytes that it reads, and what it answers.
+-- What the code has of bytes that it reads, and what it answers. All of this is this project's own.
 use Rattle.std.specs.Prelude.{◌≡◌, ℕ, Result, Ok, Err, List, [], length, ⊤}
 use Rattle.std.specs.Result.{result_unwrap_or}
 use Rattle.tablet_model.specs.Cell.{Cell}

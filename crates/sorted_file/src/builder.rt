@@ -1,3 +1,4 @@
+//! Images that are built, entry by entry.
 ghost use Rattle.std.specs.Prelude.{◌≡◌, ◌≤◌, false, [], ◌∷◌, ◌++◌, length, is_ok, if◌then◌else◌, IfOk, OnOk};
 ghost use Rattle.std.specs.Option.{option_to_list};
 ghost use Rattle.cell_key.specs.Views.{cell_of};

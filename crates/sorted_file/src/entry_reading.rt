@@ -1,4 +1,4 @@
-// How an entry of an image is read.
+//! How an entry of an image is read.
 ghost use Rattle.std.specs.Prelude.{◌≤◌, length, IfOk};
 ghost use Rattle.cell_key.specs.Views.{cell_of, key_of};
 ghost use Rattle.sorted_file.specs.Answers.{Gives, unread_of};

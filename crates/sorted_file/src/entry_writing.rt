@@ -1,4 +1,4 @@
-// How an entry of an image is written. Each function that appends may leave a part of it where memory is wanting.
+//! How an entry of an image is written. Each function that appends may leave a part of it where memory is wanting.
 ghost use Rattle.std.specs.Prelude.{◌≡◌, ◌≤◌, ◌++◌, length, OnOk};
 ghost use Rattle.cell_key.specs.Views.{cell_of, key_of};
 ghost use Rattle.sorted_file.specs.Image.{entry_bytes, flag_bytes, key_bytes, part_bytes, value_bytes};

@@ -1,3 +1,4 @@
+//! Why some bytes are no image.
 use cell_key::NoMemory;
 use thiserror::Error;
 

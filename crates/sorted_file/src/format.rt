@@ -1,6 +1,6 @@
-// The image of a sorted file, version 1. All numbers are big-endian: the magic; the version; each entry, as the
-// lengths and bytes of its parts, its time, its flag, and the length and bytes of its value; the end mark, in the place
-// of a row's length; the index, which is each block's place; the count of entries; and the end magic.
+//! The image of a sorted file, version 1. All numbers are big-endian: the magic; the version; each entry, as the
+//! lengths and bytes of its parts, its time, its flag, and the length and bytes of its value; the end mark, in the place
+//! of a row's length; the index, which is each block's place; the count of entries; and the end magic.
 
 /// What an image begins with.
 pub const MAGIC: [u8; 4] = *b"ITSF";

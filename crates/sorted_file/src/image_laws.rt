@@ -1,3 +1,4 @@
+//! That images and lists are the same, both ways.
 ghost use Rattle.std.specs.Prelude.{◌≡◌, ◌<◌, ℕ, List, All, Ok};
 ghost use Rattle.tablet_model.specs.Cell.{Cell};
 ghost use Rattle.sorted_file.specs.Image.{image_of};

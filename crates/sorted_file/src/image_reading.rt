@@ -1,4 +1,4 @@
-// How an image is read.
+//! How an image is read.
 ghost use Rattle.std.specs.Prelude.{◌≡◌, ◌<◌, ◌≤◌, ◌++◌, None, All, IfOk, OnOk, length, option_map};
 ghost use Rattle.cell_key.specs.Views.{cell_of};
 ghost use Rattle.sorted_file.specs.Answers.{Gives, Opens, count_in, counted, list_in, unread_of};

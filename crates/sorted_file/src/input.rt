@@ -1,3 +1,4 @@
+//! Fields read from an image, with the place of each.
 ghost use Rattle.std.specs.Prelude.{◌+◌, ◌<◌, ◌^◌, length};
 
 use crate::fault::{Fault, ImageCause};

@@ -1,3 +1,4 @@
+//! Where the parts of an entry end in an image.
 ghost use Rattle.std.specs.Prelude.{◌≡◌};
 ghost use Rattle.tablet_model.specs.Cell.{Cell};
 ghost use Rattle.cell_key.specs.Views.{cell_of};

@@ -1,4 +1,4 @@
-// Where the ends of a range lie in a file. Each search finds a block first, and goes from entry to entry in it.
+//! Where the ends of a range lie in a file. Each search finds a block first, and goes from entry to entry in it.
 ghost use Rattle.std.specs.Prelude.{◌≡◌, ◌≤◌, ◌-◌, false, length, filter, take, drop};
 ghost use Rattle.std.specs.List.{AllByRecursion};
 ghost use Rattle.tablet_model.specs.Cuts.{is_behind, is_before};

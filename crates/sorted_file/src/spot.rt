@@ -1,3 +1,4 @@
+//! Where an entry of a file stands.
 /// Where an entry of a file stands.
 #[derive(Clone, Copy)]
 pub struct Spot {

@@ -1,3 +1,4 @@
+//! What the tests of this floor share.
 ghost use Rattle.std.specs.Prelude.{◌≡◌, ◌<◌, true, length, IfOk};
 ghost use Rattle.tablet_model.specs.Rules.{AreStorable, IsStorable};
 ghost use Rattle.cell_key.specs.Views.{cell_of};

@@ -1,3 +1,4 @@
+//! Jobs over parts.
 ghost use Rattle.std.specs.Prelude.{◌≡◌, ⊤, None, true, map, IfOk};
 ghost use Rattle.tablet_model.specs.Ingest.{out_of_bounds};
 ghost use Rattle.tablet_model.specs.Rules.{AreStorable};

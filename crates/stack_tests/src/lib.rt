@@ -1,5 +1,5 @@
-// Shows that stacks of iterators make of entries what their configuration says in each usage, that jobs compact memory and
-// files, and that running jobs are told by their numbers and files, where there is memory.
+//! Shows that stacks of iterators make of entries what their configuration says in each usage, that jobs compact memory and
+//! files, and that running jobs are told by their numbers and files, where there is memory.
 #![tactic(auto)]
 
 #[cfg(test)]

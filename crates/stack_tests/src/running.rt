@@ -1,3 +1,4 @@
+//! Running jobs and their files.
 use cell_key::{FileIds, NoMemory};
 use compactor::{JobState, JobStates, RunningJobs};
 use std::alloc::Global;

@@ -1,3 +1,4 @@
+//! Stacks by usage.
 ghost use Rattle.std.specs.Prelude.{IfOk};
 ghost use Rattle.tablet_model.specs.Order.{above};
 ghost use Rattle.tablet_model.specs.Rules.{AreStorable};

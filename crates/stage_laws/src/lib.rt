@@ -1,4 +1,4 @@
-// The laws of iterators, compactions and stores over definitions alone: a scan does not see what was frozen, written or compacted.
+//! The laws of iterators, compactions and stores over definitions alone: a scan does not see what was frozen, written or compacted.
 #![tactic(auto)]
 
 mod compaction_laws;

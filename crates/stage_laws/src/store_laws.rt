@@ -1,3 +1,4 @@
+//! Why the store stands for its history.
 ghost use Rattle.stage_laws.specs.StoreLaws.{EmptyStoreStands, StepsStand, MutationsStand, FreezesStand, FlushesStand, CompactionsStand, StoresAnswer, StepsAreUnseen, InputsStay, FrozenPartsStay};
 
 /// A store stands for its history, from the empty one on.

@@ -1,3 +1,4 @@
+//! Which calls of a source or a sink are to fail.
 ghost use Rattle.std.specs.Prelude.{◌≡◌, ◌↔◌, [], IfOk, IsTrue, Contains};
 
 use cell_key::NoMemory;

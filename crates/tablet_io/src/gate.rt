@@ -1,3 +1,4 @@
+//! What may hold the steps of the live program back.
 /// A step of the live program, which a gate may hold back.
 #[derive(Clone, Copy, Debug, PartialEq, Eq)]
 pub enum Place {

@@ -1,4 +1,4 @@
-// The outside: sources and sinks of bytes with counts of faults, a gate of the live program, and how a run ends.
+//! The outside: sources and sinks of bytes with counts of faults, a gate of the live program, and how a run ends.
 #![tactic(auto)]
 
 mod calls;

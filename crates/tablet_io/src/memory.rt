@@ -1,3 +1,4 @@
+//! Sources and sinks over memory, whose calls may fail.
 ghost use Rattle.std.specs.Prelude.{◌≤◌, length, vec_capacity};
 
 use crate::calls::Calls;

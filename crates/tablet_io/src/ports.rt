@@ -1,3 +1,4 @@
+//! The traits of sources and sinks of bytes.
 ghost use Rattle.std.specs.Prelude.{◌<◌, Option, List, ℕ, length};
 
 /// What a read gave.

@@ -1,3 +1,4 @@
+//! Texts that are sent in pieces.
 ghost use Rattle.std.specs.Prelude.{◌≡◌, ◌≤◌, ◌<◌, [], length, OnOk, OnErr};
 ghost use Rattle.tablet_io.specs.Causes.{Rose};
 ghost use Rattle.tablet_io.specs.Streams.{IsFrontTaken, IsSent, IsTaken, piece_size};

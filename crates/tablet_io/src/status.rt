@@ -1,3 +1,4 @@
+//! How a run of the program ends.
 ghost use Rattle.std.specs.Prelude.{◌≡◌};
 ghost use Rattle.tablet_io.specs.Statuses.{status_number};
 

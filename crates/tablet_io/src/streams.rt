@@ -1,3 +1,4 @@
+//! Whole reads and writes over any source and sink.
 ghost use Rattle.std.specs.Prelude.{◌≡◌, ◌≤◌, ◌++◌, Some, IfSome, OnOk, OnErr, IsErrOf};
 ghost use Rattle.tablet_io.specs.Causes.{Rose};
 ghost use Rattle.tablet_io.specs.Streams.{IsFrontTaken, ReadsAll};

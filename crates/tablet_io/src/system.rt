@@ -1,3 +1,4 @@
+//! Sources and sinks over std.
 use crate::ports::{Got, Put, Sink, Source};
 use std::io::{Read, Write};
 

@@ -1,4 +1,4 @@
--- The laws of the orders, of sums, of markers and of histories, as statements.
+-- The laws of the orders, of sums, of markers and of histories, as statements: this project's own theorems.
 use Rattle.std.specs.Prelude.{◌≡◌, ◌++◌, ◌∷◌, Bool, true, false, not, List, [], filter, pos, ◌+◌, length}
 use Rattle.std.specs.declared.cmp.Ordering.{Ordering}
 use Rattle.std.specs.Cmp.{IsTotalOrder}

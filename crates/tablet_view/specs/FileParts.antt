@@ -1,4 +1,4 @@
--- Stored files as files of the model.
+-- Stored files as files of the model. All of this is this project's own.
 use Rattle.std.specs.Arc.{arc_value}
 use Rattle.tablet_model.specs.Store.{File}
 use Rattle.tablet_view.specs.declared.files.StoredFile.{StoredFile}

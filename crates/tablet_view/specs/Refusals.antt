@@ -1,4 +1,4 @@
--- Why a mutation does not come in, in code.
+-- Why a mutation does not come in, in code. All of this is this project's own.
 use Rattle.std.specs.Prelude.{Option, Some, None}
 use Rattle.tablet_model.specs.Ingest.{Refusal}
 use Rattle.ingest.specs.Refusals.{refusal_of}

@@ -1,4 +1,4 @@
--- The parts of a view as a snapshot.
+-- The parts of a view as a snapshot. All of this is this project's own.
 use Rattle.std.specs.Prelude.{option_map}
 use Rattle.std.specs.Arc.{arc_value}
 use Rattle.tablet_view.specs.Snapshot.{Snapshot}

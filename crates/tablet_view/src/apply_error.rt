@@ -1,3 +1,4 @@
+//! Why a mutation does not come in.
 use cell_key::NoMemory;
 use ingest::Refused;
 use thiserror::Error;

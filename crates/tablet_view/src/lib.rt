@@ -1,4 +1,4 @@
-// Snapshots of a tablet: what it holds at a moment, all of it shared, and what it stands for.
+//! Snapshots of a tablet: what it holds at a moment, all of it shared, and what it stands for.
 #![tactic(auto)]
 
 mod apply_error;

@@ -1,3 +1,4 @@
+//! The mutations of a view, in shared runs.
 ghost use Rattle.std.specs.Prelude.{◌≡◌, ◌↔◌, ◌<◌, ◌≤◌, ◌+◌, ◌^◌, IsTrue, Some, [], ◌∷◌, ◌++◌, length, slice_get, take, IfOk, OnOk};
 ghost use Rattle.cell_key.specs.Mutations.{row_change_of};
 ghost use Rattle.tablet_view.specs.Extending.{BeginsWith};

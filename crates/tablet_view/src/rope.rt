@@ -1,3 +1,4 @@
+//! Mutations in their order, as a tree whose halves are shared.
 ghost use Rattle.std.specs.Prelude.{◌≡◌, ◌<◌, Some, length, slice_get};
 ghost use Rattle.tablet_view.specs.Ropes.{IsCounted, mutations_in};
 

@@ -1,3 +1,4 @@
+//! Snapshots of a tablet.
 ghost use Rattle.std.specs.Prelude.{◌≡◌, ◌↔◌, ◌<◌, ◌≤◌, ◌+◌, ◌^◌, true, [], ◌∷◌, ◌++◌, Some, None, length, map, slice_get, option_map, unwrap_or, IsTrue, IsSome, IfOk, OnOk, MatchResult};
 ghost use Rattle.std.specs.Arc.{arc_value};
 ghost use Rattle.tablet_model.specs.Answers.{answer};

@@ -1,3 +1,4 @@
+//! A source of the entries of all parts of a view.
 #![tactic(auto, unfolding(crate::specs::Sources::source_cells, crate::specs::Sources::source_rest, crate::specs::Sources::source_valid))]
 
 use crate::family_iter::FamilyIter;

@@ -1,3 +1,4 @@
+//! Arrays of numbers.
 ghost use Rattle.std.specs.Prelude.{◌≡◌, IsTrue, true};
 ghost use Rattle.number_values.specs.Arrays.{spells_array};
 

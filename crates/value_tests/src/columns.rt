@@ -1,3 +1,4 @@
+//! Kept columns and names of columns.
 ghost use Rattle.std.specs.Prelude.{◌≡◌, ◌++◌, ◌∷◌, [], OnOk};
 
 use crate::fixtures::has_parts;

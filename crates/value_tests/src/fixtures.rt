@@ -1,3 +1,4 @@
+//! What the tests of this floor share.
 ghost use Rattle.std.specs.Prelude.{◌<◌, ◌≤◌, length};
 
 use cell_key::KeyRef;

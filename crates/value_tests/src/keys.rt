@@ -1,3 +1,4 @@
+//! Keys and their order.
 use crate::fixtures::{has_parts, row_key};
 use cell_key::{Key, KeyError, KeyRef, Part, compare, same_column};
 use std::alloc::Global;

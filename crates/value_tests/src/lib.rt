@@ -1,4 +1,4 @@
-// The tests of keys, numbers and streams: examples from outside, and that each call that takes memory succeeds where there is some.
+//! The tests of keys, numbers and streams: examples from outside, and that each call that takes memory succeeds where there is some.
 #![tactic(auto)]
 
 #[cfg(test)]

@@ -1,3 +1,4 @@
+//! Lists of entries and other elements.
 use crate::fixtures::row_key;
 use cell_key::{Entries, Entry, EntryRef, FileIds, NoMemory, compare_entries};
 use std::alloc::Global;

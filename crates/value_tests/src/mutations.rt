@@ -1,3 +1,4 @@
+//! Mutations.
 use cell_key::{ByteText, Mutation, NoMemory, Update, Updates};
 use std::alloc::Global;
 

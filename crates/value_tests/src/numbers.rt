@@ -1,3 +1,4 @@
+//! Numbers of values.
 use number_values::{Encoding, NumberText, Op};
 
 #[test]

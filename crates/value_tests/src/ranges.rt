@@ -1,3 +1,4 @@
+//! Ranges and places in them.
 ghost use Rattle.cell_key.specs.Ranges.{IsAtMostRow};
 ghost use Rattle.cell_key.specs.RowBounds.{HasShortRow};
 

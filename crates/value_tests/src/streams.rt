@@ -1,3 +1,4 @@
+//! Sources and sinks.
 ghost use Rattle.std.specs.Prelude.{◌≤◌};
 
 use cell_key::{ByteText, NoMemory};

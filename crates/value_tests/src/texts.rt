@@ -1,3 +1,4 @@
+//! Escapes.
 use cell_key::{ByteText, NoMemory, TextError, append_escape, escape, unescape};
 use std::alloc::Global;
 
