@@ -103,7 +103,7 @@ impl Entry {
 
     /// The order of entries. It takes no memory.
     #[tactic(auto, using(crate::proofs::RowFirst::less_row, crate::proofs::RowFirst::greater_row))]
-    pub fn compare(&self, other: &Entry) -> Ordering
+    pub(crate) fn compare(&self, other: &Entry) -> Ordering
         ensures { result ≡ cell_cmp self.now other.now }
     {
         // Most rows differ, and then the other parts need not be looked up.
