@@ -1,5 +1,6 @@
 -- A kept bound, as a cut. All of this is this project's own.
 use Rattle.std.specs.Prelude.{ℕ, ℤ, ◌≤◌, Bool, List, Option, Some, None, IsSome, length, vec_capacity, ⊤}
+use Rattle.tablet_model.specs.Limits.{max_part}
 use Rattle.tablet_model.specs.Cell.{Column, CellKey}
 use Rattle.tablet_model.specs.Columns.{with_time}
 use Rattle.tablet_model.specs.Cuts.{Cut, Everything, Before, Behind, BeforeRow, BehindRow}
@@ -32,4 +33,4 @@ HasColumn _ column = ⊤
 
 -- there is room for the longest row, and the kept parts are as the kind needs
 abbrev pub IsBoundReserved : Inside → Type 0
-IsBoundReserved b = (1024 ≤ vec_capacity b.row) × (length b.row.items ≤ 1024) × HasColumn b.kind b.column
+IsBoundReserved b = (max_part ≤ vec_capacity b.row) × (length b.row.items ≤ max_part) × HasColumn b.kind b.column

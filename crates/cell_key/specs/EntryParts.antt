@@ -1,6 +1,7 @@
 -- An entry, as its parts in one run of bytes. All of this is this project's own.
 use Rattle.std.specs.Prelude.{ℕ, ◌≤◌, ◌-◌, ◌++◌, List, take, drop, length}
 use Rattle.std.specs.Arc.{arc_value}
+use Rattle.tablet_model.specs.Limits.{max_part}
 use Rattle.tablet_model.specs.Cell.{Cell}
 use Rattle.cell_key.specs.declared.entry.Entry.TheInside.{Inside}
 
@@ -33,7 +34,7 @@ pub record IsPacked (b : Inside) : Type 0 where
   pub order_qualifier : b.qualifier ≤ b.visibility
   pub order_visibility : b.visibility ≤ length (arc_value b.bytes).items
   pub row_some : 1 ≤ b.row
-  pub row_bound : b.row ≤ 1024
-  pub family_bound : b.family - b.row ≤ 1024
-  pub qualifier_bound : b.qualifier - b.family ≤ 1024
-  pub visibility_bound : b.visibility - b.qualifier ≤ 1024
+  pub row_bound : b.row ≤ max_part
+  pub family_bound : b.family - b.row ≤ max_part
+  pub qualifier_bound : b.qualifier - b.family ≤ max_part
+  pub visibility_bound : b.visibility - b.qualifier ≤ max_part

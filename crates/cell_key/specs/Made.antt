@@ -1,5 +1,6 @@
 -- How a key is made, and why not. The bounds are this project's own.
 use Rattle.std.specs.Prelude.{ℕ, ℤ, Bool, List, length, nat_lt, ◌||◌, ◌==◌, if◌then◌else◌, Option, Some, None}
+use Rattle.tablet_model.specs.Limits.{max_part}
 use Rattle.tablet_model.specs.Cell.{CellKey}
 use Rattle.cell_key.specs.declared.key.Part.{Part}
 use Rattle.cell_key.specs.declared.key.Part.TheVariants.{Row, Family, Qualifier, Visibility}
@@ -19,7 +20,7 @@ key_from row family qualifier visibility time deleted = record {
 
 -- a part has too many bytes
 abbrev pub is_long : List ℕ → Bool
-is_long part = nat_lt 1024 (length part)
+is_long part = nat_lt max_part (length part)
 
 -- the first part out of bounds: a row of no bytes, or a long part
 abbrev pub first_out : List ℕ → List ℕ → List ℕ → List ℕ → Option Part

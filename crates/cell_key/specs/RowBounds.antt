@@ -1,5 +1,6 @@
 -- How long the row of a bound may be. All of this is this project's own.
 use Rattle.std.specs.Prelude.{ℕ, ◌≤◌, length}
+use Rattle.tablet_model.specs.Limits.{max_part}
 use Rattle.cell_key.specs.declared.range.Bound.{Bound}
 use Rattle.cell_key.specs.declared.range.Bound.TheVariants.{Open, At, Past, Row, PastRow}
 
@@ -13,4 +14,4 @@ row_length (PastRow r) = length r.now
 
 -- a row in a bound has at most 1,024 bytes (this project's bound)
 abbrev pub HasShortRow : Bound → Type 0
-HasShortRow b = row_length b ≤ 1024
+HasShortRow b = row_length b ≤ max_part

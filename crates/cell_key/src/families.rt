@@ -1,5 +1,6 @@
 //! Lists of names, and the families that a scan chooses.
 ghost use Rattle.std.specs.Prelude.{◌≡◌, ◌<◌, ◌≤◌, Some, None, length, IfOk};
+ghost use Rattle.tablet_model.specs.Limits.{max_names};
 ghost use Rattle.tablet_model.specs.Families.{has_family};
 
 use crate::items::{ByteText, Items};
@@ -35,7 +36,7 @@ impl Families {
     /// The families of these names; a name may stand there more than once.
     pub fn of(alloc: Global, names: &[ByteText]) -> Result<Families, NoMemory>
         requires some { 0 < length names.now }
-        requires few { length names.now ≤ 64 }
+        requires few { length names.now ≤ max_names }
         ensures { IfOk result (λ families. families ≡ Some names.now) }
     {
         let names = copied_names(alloc, names)?;

@@ -1,5 +1,6 @@
 //! The first check: the bounds of a mutation's parts.
 ghost use Rattle.std.specs.Prelude.{◌≡◌, ◌≤◌, None, length, map, option_map};
+ghost use Rattle.tablet_model.specs.Limits.{max_changes};
 ghost use Rattle.tablet_model.specs.Ingest.{first_too_long, out_of_bounds, too_long};
 ghost use Rattle.cell_key.specs.Mutations.{change_of, row_change_of};
 ghost use Rattle.ingest.specs.Refusals.{part_of, refusal_of};
@@ -35,7 +36,7 @@ fn long_part(update: &Update) -> Option<Part>
 
 /// The first update with a part that is too long.
 fn first_long(updates: &[Update]) -> Option<Refused>
-    requires { length updates.now ≤ 100 }
+    requires { length updates.now ≤ max_changes }
     ensures { option_map refusal_of result ≡ first_too_long 1 (map change_of updates.now) }
 {
     for i in 0..updates.len() {
@@ -51,7 +52,7 @@ fn first_long(updates: &[Update]) -> Option<Refused>
 #[tactic(auto, unfolding(tablet_model::specs::Ingest::out_of_bounds))]
 pub fn out_of_bounds(mutation: &Mutation) -> Option<Refused>
     ensures refusal { option_map refusal_of result ≡ out_of_bounds (row_change_of mutation.now) }
-    ensures few { result ≡ None → length mutation.now.updates ≤ 100 }
+    ensures few { result ≡ None → length mutation.now.updates ≤ max_changes }
 {
     if mutation.row.is_empty() || mutation.row.len() > MAX_KEY_PART {
         return Some(Refused::Bound {

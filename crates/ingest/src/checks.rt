@@ -1,6 +1,7 @@
 //! The checks of what a mutation does, and all checks in their order.
 ghost use Rattle.std.specs.Prelude.{◌≡◌, ◌≤◌, [], length, map, option_map};
 ghost use Rattle.std.specs.List.{list_any};
+ghost use Rattle.tablet_model.specs.Limits.{max_changes};
 ghost use Rattle.tablet_model.specs.Ingest.{first_twice, first_where, ingest, is_twin};
 ghost use Rattle.cell_key.specs.Mutations.{change_of, row_change_of};
 ghost use Rattle.iter_config.specs.RulesOf.{rules_of};
@@ -34,7 +35,7 @@ fn has_twin(before: &[Update], update: &Update) -> bool
 
 /// The number of the first update that has a twin before it.
 fn first_twice(updates: &[Update]) -> Option<u32>
-    requires { length updates.now ≤ 100 }
+    requires { length updates.now ≤ max_changes }
     ensures { result ≡ first_twice [] 1 (map change_of updates.now) }
 {
     for i in 0..updates.len() {
@@ -68,7 +69,7 @@ fn is_unread(config: &Config, update: &Update) -> bool
 
 /// The number of the first update that deletes where the configuration refuses deletes.
 fn first_refused_delete(config: &Config, updates: &[Update]) -> Option<u32>
-    requires { length updates.now ≤ 100 }
+    requires { length updates.now ≤ max_changes }
     ensures { result ≡ first_where (is_refused_delete config.now) 1 (map change_of updates.now) }
 {
     for i in 0..updates.len() {
@@ -81,7 +82,7 @@ fn first_refused_delete(config: &Config, updates: &[Update]) -> Option<u32>
 
 /// The number of the first update that puts a value that the configuration doesn't read.
 fn first_unread(config: &Config, updates: &[Update]) -> Option<u32>
-    requires { length updates.now ≤ 100 }
+    requires { length updates.now ≤ max_changes }
     ensures { result ≡ first_where (is_unread config.now) 1 (map change_of updates.now) }
 {
     for i in 0..updates.len() {

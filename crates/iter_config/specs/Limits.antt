@@ -1,5 +1,6 @@
 -- The limits of an iterator's fields. All of this is this project's own.
 use Rattle.std.specs.Prelude.{ℕ, ◌≤◌, List, length, All, IfSome, ⊤}
+use Rattle.tablet_model.specs.Limits.{max_names, max_part}
 use Rattle.cell_key.specs.declared.column_name.ColumnName.{ColumnName}
 use Rattle.iter_config.specs.declared.iter_spec.Kind.{Kind}
 use Rattle.iter_config.specs.declared.iter_spec.Kind.TheVariants.{Filter, Versions, Combine}
@@ -8,11 +9,11 @@ use Rattle.iter_config.specs.declared.predicate.Predicate.TheVariants.{Family, Q
 
 -- a name has at most 1,024 bytes
 abbrev pub IsShortName : List ℕ → Type 0
-IsShortName name = length name ≤ 1024
+IsShortName name = length name ≤ max_part
 
 -- 1 to 64 names
 abbrev pub AreNames : List (List ℕ) → Type 0
-AreNames names = (1 ≤ length names) × (length names ≤ 64) × All IsShortName names
+AreNames names = (1 ≤ length names) × (length names ≤ max_names) × All IsShortName names
 
 -- the parts of a name of columns are names
 abbrev pub IsShortColumn : ColumnName → Type 0
@@ -20,14 +21,14 @@ IsShortColumn column = IsShortName column.family × IfSome column.qualifier IsSh
 
 -- 1 to 64 names of columns
 abbrev pub AreColumns : List ColumnName → Type 0
-AreColumns columns = (1 ≤ length columns) × (length columns ≤ 64) × All IsShortColumn columns
+AreColumns columns = (1 ≤ length columns) × (length columns ≤ max_names) × All IsShortColumn columns
 
 -- what a filter tests is within its fields' limits
 abbrev pub IsLimitedTest : Predicate → Type 0
 IsLimitedTest (Family families) = AreNames families
 IsLimitedTest (QualifierSlice from to) = IfSome from IsShortName × IfSome to IsShortName
 IsLimitedTest (VisibilitySet visibilities) = AreNames visibilities
-IsLimitedTest (Grep needle) = (1 ≤ length needle) × (length needle ≤ 1024)
+IsLimitedTest (Grep needle) = (1 ≤ length needle) × (length needle ≤ max_part)
 IsLimitedTest (Times from to) = ⊤
 
 -- what an iterator does is within its fields' limits

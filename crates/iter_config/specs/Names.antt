@@ -1,6 +1,7 @@
 -- Escaped names, and the names of columns. The fields are this project's own; a column is named as Accumulo's combiners name it.
 use Rattle.std.specs.Prelude.{ℕ, ◌+◌, ◌&&◌, ◌==◌, nat_le, if◌then◌else◌, List, [], ◌∷◌, length, take, drop, position, Option, Some, None}
 use Rattle.std.specs.Result.{result_ok}
+use Rattle.tablet_model.specs.Limits.{max_names, max_part}
 use Rattle.cell_key.specs.Escape.{unescape_of}
 use Rattle.cell_key.specs.declared.column_name.ColumnName.{ColumnName}
 use Rattle.toml.specs.Data.{Data, Items, no_items, item, as_array, as_str}
@@ -10,7 +11,7 @@ use Rattle.iter_config.specs.Faults.{◌>>=◌}
 abbrev pub name_of : List ℕ → Option (List ℕ)
 name_of text = do
   bytes ← result_ok (unescape_of text)
-  if nat_le (length bytes) 1024 then Some bytes else None
+  if nat_le (length bytes) max_part then Some bytes else None
 
 -- the name that a field spells
 abbrev pub spelled_in : Data → Option (List ℕ)
@@ -29,7 +30,7 @@ abbrev pub names_in : Data → Option (List (List ℕ))
 names_in d = do
   ds ← as_array d
   names ← names_of ds
-  if nat_le 1 (length names) && nat_le (length names) 64 then Some names else None
+  if nat_le 1 (length names) && nat_le (length names) max_names then Some names else None
 
 -- a name, if anything stands there
 abbrev pub name_or_none : Option Data → Option (Option (List ℕ))
@@ -66,4 +67,4 @@ abbrev pub columns_in : Data → Option (List ColumnName)
 columns_in d = do
   ds ← as_array d
   columns ← columns_of ds
-  if nat_le 1 (length columns) && nat_le (length columns) 64 then Some columns else None
+  if nat_le 1 (length columns) && nat_le (length columns) max_names then Some columns else None

@@ -1,6 +1,7 @@
 //! The runs of a map, of which each is at least twice as long as the next.
 ghost use Rattle.std.specs.Prelude.{◌≡◌, ℕ, ◌+◌, ◌*◌, ◌^◌, ◌<◌, ◌≤◌, None, [], ◌∷◌, ◌++◌, drop, get_or, length, IfOk};
 ghost use Rattle.std.specs.List.{sum_by};
+ghost use Rattle.tablet_model.specs.Limits.{max_changes};
 ghost use Rattle.tablet_model.specs.History.{entries_of};
 ghost use Rattle.tablet_model.specs.Ingest.{out_of_bounds};
 ghost use Rattle.cell_key.specs.Mutations.{row_change_of};
@@ -23,7 +24,7 @@ impl Joining {
     /// The runs that do not stay are those of less than twice as many entries as stand behind them.
     pub(crate) fn of(runs: &[Arc<Entries>], added: usize) -> Joining
         requires runs { AreRuns (lists_of runs.now) }
-        requires few { added ≤ 100 }
+        requires few { added ≤ max_changes }
         ensures kept { result.kept ≤ length runs.now }
         ensures size { result.size ≡ added + sum_by length (drop result.kept (lists_of runs.now)) }
         ensures twice { (i : ℕ) → i + 1 ≡ result.kept → 2 * result.size ≤ length (get_or (lists_of runs.now) i []) }

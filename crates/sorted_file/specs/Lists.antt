@@ -1,6 +1,7 @@
 -- Which lists have an image that is read. The bounds are this project's own.
 use Rattle.std.specs.Prelude.{ℕ, ◌≤◌, Bool, false, if◌then◌else◌, List, length, Option, Some, None}
 use Rattle.std.specs.List.{AllByRecursion, last_or}
+use Rattle.tablet_model.specs.Limits.{max_value}
 use Rattle.tablet_model.specs.Cell.{Cell}
 use Rattle.tablet_model.specs.Bounds.{IsEntry}
 use Rattle.tablet_model.specs.Order.{above}
@@ -8,7 +9,7 @@ use Rattle.tablet_model.specs.Sorted.{Ascends}
 
 -- the most bytes of a value; a marker's value is empty
 abbrev pub longest_value : Bool → ℕ
-longest_value deleted = if deleted then 0 else 65536
+longest_value deleted = if deleted then 0 else max_value
 
 -- an entry of a file: its key and its value are within bounds
 abbrev pub IsFileEntry : Cell → Type 0

@@ -3,6 +3,7 @@
 use Rattle.std.specs.Prelude.{ℕ, zero, suc, ◌+◌, Bool, true, false, ◌||◌, ◌==◌, if◌then◌else◌, nat_lt, List, [], ◌∷◌, length, take, drop, slice_index, Option, Some, None, Result, Ok, Err}
 use Rattle.std.specs.Int.{Width, w16, w32, w64, byte_len, from_be_bytes, to_be_bytes, cast_signed}
 use Rattle.std.specs.Str.{bytes_eq}
+use Rattle.tablet_model.specs.Limits.{max_part}
 use Rattle.tablet_model.specs.Cell.{CellKey, Cell}
 use Rattle.sorted_file.specs.Image.{magic, version, end_magic, block_places}
 use Rattle.sorted_file.specs.Lists.{longest_value, is_out_of_order}
@@ -49,13 +50,13 @@ expected_at cause bytes u = do
 unfoldable pub row_at : Unread → Result (List ℕ × Unread) Fault
 row_at u = do
   n ← number_at w16 u
-  if n.0 == 0 || nat_lt 1024 n.0 then fault Bound u.at else bytes_at n.0 n.1
+  if n.0 == 0 || nat_lt max_part n.0 then fault Bound u.at else bytes_at n.0 n.1
 
 -- another part of a key: its length, at most 1,024, and its bytes
 unfoldable pub part_at : Unread → Result (List ℕ × Unread) Fault
 part_at u = do
   n ← number_at w16 u
-  if nat_lt 1024 n.0 then fault Bound u.at else bytes_at n.0 n.1
+  if nat_lt max_part n.0 then fault Bound u.at else bytes_at n.0 n.1
 
 -- whether an entry is a marker: a byte 1 or 0
 unfoldable pub flag_at : Unread → Result (Bool × Unread) Fault

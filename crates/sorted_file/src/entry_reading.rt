@@ -1,5 +1,6 @@
 //! How an entry of an image is read.
 ghost use Rattle.std.specs.Prelude.{◌≤◌, length, IfOk};
+ghost use Rattle.tablet_model.specs.Limits.{max_part};
 ghost use Rattle.cell_key.specs.Views.{cell_of, key_of};
 ghost use Rattle.sorted_file.specs.Answers.{Gives, unread_of};
 ghost use Rattle.sorted_file.specs.Reading.{entry_at, flag_at, key_at, part_at, row_at, value_at};
@@ -13,7 +14,7 @@ use cell_key::{EntryRef, KeyRef, MAX_KEY_PART};
 fn take_row(input: Input<'_>) -> Result<(&[u8], Input<'_>), Fault>
     ensures reading { Gives (λ x. (x.0.now, unread_of x.1)) result (row_at (unread_of input.entry)) }
     ensures some { IfOk result (λ x. 1 ≤ length x.0.now) }
-    ensures bound { IfOk result (λ x. length x.0.now ≤ 1024) }
+    ensures bound { IfOk result (λ x. length x.0.now ≤ max_part) }
 {
     let (length, rest) = input.take_u16()?;
     let length = length as usize;
@@ -27,7 +28,7 @@ fn take_row(input: Input<'_>) -> Result<(&[u8], Input<'_>), Fault>
 #[tactic(auto, unfolding(crate::specs::Reading::part_at))]
 fn take_part(input: Input<'_>) -> Result<(&[u8], Input<'_>), Fault>
     ensures reading { Gives (λ x. (x.0.now, unread_of x.1)) result (part_at (unread_of input.entry)) }
-    ensures bound { IfOk result (λ x. length x.0.now ≤ 1024) }
+    ensures bound { IfOk result (λ x. length x.0.now ≤ max_part) }
 {
     let (length, rest) = input.take_u16()?;
     let length = length as usize;

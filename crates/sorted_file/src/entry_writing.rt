@@ -1,12 +1,13 @@
 //! How an entry of an image is written. Each function that appends may leave a part of it where memory is wanting.
 ghost use Rattle.std.specs.Prelude.{◌≡◌, ◌≤◌, ◌++◌, length, OnOk};
+ghost use Rattle.tablet_model.specs.Limits.{max_part, max_value};
 ghost use Rattle.cell_key.specs.Views.{cell_of, key_of};
 ghost use Rattle.sorted_file.specs.Image.{entry_bytes, flag_bytes, key_bytes, part_bytes, value_bytes};
 
 use cell_key::{EntryRef, KeyRef, NoMemory};
 
 fn append_part(bytes: &mut Vec<u8>, part: &[u8]) -> Result<(), NoMemory>
-    requires { length part.now ≤ 1024 }
+    requires { length part.now ≤ max_part }
     ensures { OnOk result (bytes.new.items ≡ bytes.old.items ++ part_bytes part.now) }
 {
     bytes.extend_from_slice(&(part.len() as u16).to_be_bytes())?;
@@ -22,7 +23,7 @@ fn append_flag(bytes: &mut Vec<u8>, deleted: bool) -> Result<(), NoMemory>
 }
 
 fn append_value(bytes: &mut Vec<u8>, value: &[u8]) -> Result<(), NoMemory>
-    requires { length value.now ≤ 65536 }
+    requires { length value.now ≤ max_value }
     ensures { OnOk result (bytes.new.items ≡ bytes.old.items ++ value_bytes value.now) }
 {
     bytes.extend_from_slice(&(value.len() as u32).to_be_bytes())?;
@@ -46,7 +47,7 @@ fn append_key(bytes: &mut Vec<u8>, key: KeyRef<'_>) -> Result<(), NoMemory>
 /// before it.
 #[tactic(auto, unfolding(crate::specs::Image::entry_bytes))]
 pub fn write_entry(bytes: &mut Vec<u8>, entry: EntryRef<'_>) -> Result<(), NoMemory>
-    requires { length entry.value.now ≤ 65536 }
+    requires { length entry.value.now ≤ max_value }
     ensures { OnOk result (bytes.new.items ≡ entry_bytes (cell_of entry.entry)) }
 {
     bytes.clear();

@@ -2,6 +2,7 @@
 use Rattle.std.specs.Prelude.{◌≡◌, ℕ, ◌+◌, pos, Bool, true, cond, not, ◌&&◌, ◌||◌, List, [], ◌∷◌, ◌++◌, bytes_eq, length, nat_lt, Option, Some, None, is_some, unwrap_or, option_map, ⊤}
 use Rattle.std.specs.Option.{option_or}
 use Rattle.std.specs.List.{list_any}
+use Rattle.tablet_model.specs.Limits.{max_changes, max_mutations, max_part, max_value}
 use Rattle.tablet_model.specs.Cell.{Cell}
 use Rattle.tablet_model.specs.Stages.{Stage, by_column, by_cell, newest, combine}
 use Rattle.tablet_model.specs.History.{Change, RowChange, is_delete, entry_of}
@@ -27,10 +28,10 @@ pub data Refusal : Type 0 where
 
 -- the first part of a change that is too long: 1,024 bytes for family, qualifier and visibility, 65,536 for a value
 unfoldable pub too_long : Change → Option Part
-too_long u = cond (nat_lt 1024 (length u.family)) (Some family_part)
-    (cond (nat_lt 1024 (length u.qualifier)) (Some qualifier_part)
-    (cond (nat_lt 1024 (length u.visibility)) (Some visibility_part)
-    (cond (nat_lt 65536 (length (unwrap_or u.value []))) (Some value_part) None)))
+too_long u = cond (nat_lt max_part (length u.family)) (Some family_part)
+    (cond (nat_lt max_part (length u.qualifier)) (Some qualifier_part)
+    (cond (nat_lt max_part (length u.visibility)) (Some visibility_part)
+    (cond (nat_lt max_value (length (unwrap_or u.value []))) (Some value_part) None)))
 
 -- the first change with a part that is too long, where the first of the list has this number
 unfoldable pub first_too_long : ℕ → List Change → Option Refusal
@@ -39,8 +40,8 @@ first_too_long at (u ∷ us) = option_or (option_map (bound at) (too_long u)) (f
 
 -- the first check: a row of 1 to 1,024 bytes, 1 to 100 changes, and no part too long
 unfoldable pub out_of_bounds : RowChange → Option Refusal
-out_of_bounds m = cond (nat_lt (length m.row) 1 || nat_lt 1024 (length m.row)) (Some (bound 0 row_part))
-    (cond (nat_lt (length m.changes) 1 || nat_lt 100 (length m.changes)) (Some (bound 0 updates_part))
+out_of_bounds m = cond (nat_lt (length m.row) 1 || nat_lt max_part (length m.row)) (Some (bound 0 row_part))
+    (cond (nat_lt (length m.changes) 1 || nat_lt max_changes (length m.changes)) (Some (bound 0 updates_part))
     (first_too_long 1 m.changes))
 
 -- the number of the first change of which a test holds
@@ -84,7 +85,7 @@ ingest c n m = option_or (out_of_bounds m)
     (option_or (option_map delete_here (first_where (is_refused_delete c (n + 1) m) 1 m.changes))
     (option_or (option_map time_here (first_where (is_mistimed c (n + 1) m) 1 m.changes))
     (option_or (option_map bad_value (first_where (is_unread c (n + 1) m) 1 m.changes))
-    (cond (nat_lt n 524288) None (Some full_log))))))
+    (cond (nat_lt n max_mutations) None (Some full_log))))))
 
 -- each mutation comes in behind those before it, of which there are n at first
 abbrev pub AreLetIn : Rules → ℕ → List RowChange → Type 0

@@ -1,3 +1,4 @@
+pub mod Limits
 pub mod Cell
 pub mod Order
 pub mod Sorted

@@ -1,6 +1,7 @@
 -- What a configuration asks of a store. All of this is this project's own.
 use Rattle.std.specs.Prelude.{◌≡◌, ◌≤◌, ℤ, Bool, true, false, List, [], ◌++◌, length, ⊤}
 use Rattle.std.specs.List.{AllByRecursion, list_any}
+use Rattle.tablet_model.specs.Limits.{max_value}
 use Rattle.tablet_model.specs.Cell.{Cell}
 use Rattle.tablet_model.specs.Bounds.{KeyBounds}
 use Rattle.tablet_model.specs.Stages.{Stage, by_column, by_cell, newest, combine, stages}
@@ -37,7 +38,7 @@ abbrev pub IsShort : Stage → Type 0
 IsShort (by_column p) = ⊤
 IsShort (by_cell p) = ⊤
 IsShort (newest n) = ⊤
-IsShort (combine listed r full) = (v : List ℤ) → r.is_value v ≡ true → length (r.text v) ≤ 65536
+IsShort (combine listed r full) = (v : List ℤ) → r.is_value v ≡ true → length (r.text v) ≤ max_value
 
 -- a list begins with another
 abbrev pub StandsFirst : List Stage → List Stage → Type 0
@@ -60,7 +61,7 @@ pub record AreSound (c : Rules) : Type 0 where
 -- an entry that the checks of mutations let in, and that compactions may leave
 pub record IsStorable (c : Rules) (e : Cell) : Type 0 where
   pub bounds : KeyBounds e.key.row e.key.family e.key.qualifier e.key.visibility
-  pub short : length e.value ≤ 65536
+  pub short : length e.value ≤ max_value
   pub no_value : e.key.deleted ≡ true → e.value ≡ []
   pub may_delete : e.key.deleted ≡ true → c.may_delete e ≡ true
   pub reads : e.key.deleted ≡ false → AllByRecursion (IsReadBy e) c.base

@@ -2,6 +2,7 @@
 use Rattle.std.specs.Prelude.{ℕ, ◌+◌, pos, Bool, true, false, cond, not, List, [], ◌∷◌, ◌++◌, map, length, eqb, nat_lt, Option, Some, None, is_some, is_none, option_map, unwrap_or}
 use Rattle.std.specs.Option.{option_or}
 use Rattle.std.specs.List.{filter, list_all}
+use Rattle.tablet_model.specs.Limits.{max_files}
 use Rattle.tablet_model.specs.Cell.{Cell}
 use Rattle.tablet_model.specs.Sum.{sum_of}
 use Rattle.tablet_model.specs.Compactions.{minor_compaction, partial_compaction, full_compaction}
@@ -82,7 +83,7 @@ refuse_start s j ids = cond (is_some (find_job j s.jobs)) (Some (job_exists j))
 unfoldable pub refuse : Rules → Store → Event → Option StepAnswer
 refuse c s (apply m) = option_map refused (ingest c s.count m)
 refuse c s freeze = cond (is_some s.frozen) (Some frozen_there) (cond (is_empty s.memory) (Some nothing_in_memory) None)
-refuse c s flush = cond (is_none s.frozen) (Some nothing_frozen) (cond (nat_lt (length s.files) 64) None (Some too_many_files))
+refuse c s flush = cond (is_none s.frozen) (Some nothing_frozen) (cond (nat_lt (length s.files) max_files) None (Some too_many_files))
 refuse c s (compact j ids) = refuse_start s j ids
 refuse c s (compact_all j) = refuse_start s j (ids_of s.files)
 refuse c s (finish j) = cond (is_some (find_job j s.jobs)) None (Some (no_such_job j))
