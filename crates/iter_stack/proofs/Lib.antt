@@ -1,5 +1,6 @@
 pub mod Alike
 pub mod Steps
+pub mod Past
 pub mod Runs
 pub mod Taken
 pub mod Stored

@@ -7,29 +7,35 @@ use Rattle.tablet_model.specs.Bounds.{AreEntries}
 use Rattle.iter_stack.specs.Levels.{level_cells, level_rest, level_steady, level_valid, level_sorted, level_bounded}
 use Rattle.iter_stack.specs.declared.level.Level.{Level}
 use Rattle.iter_stack.specs.declared.four.Four.{Four}
+use Rattle.iter_stack.specs.declared.four.Four.TheVariants.{Bare, Levels}
 
 module _ {S : Type 0} where
   -- what the fourth makes of what the third makes, and so on
   unfoldable pub four_cells : (S → List Cell) → Four S → List Cell
-  four_cells cells f = level_cells (level_cells (level_cells (level_cells cells))) f.levels
+  four_cells cells (Bare s) = cells s
+  four_cells cells (Levels l) = level_cells (level_cells (level_cells (level_cells cells))) l
 
   -- what the fourth has left
   unfoldable pub four_rest : (S → List Cell) → Four S → List Cell
-  four_rest rest f = level_rest (level_rest (level_rest (level_rest rest))) f.levels
+  four_rest rest (Bare s) = rest s
+  four_rest rest (Levels l) = level_rest (level_rest (level_rest (level_rest rest))) l
 
   -- they are steady where the source and all four are
   unfoldable pub four_steady : (S → Bool) → Four S → Bool
-  four_steady steady f = level_steady (level_steady (level_steady (level_steady steady))) f.levels
+  four_steady steady (Bare s) = steady s
+  four_steady steady (Levels l) = level_steady (level_steady (level_steady (level_steady steady))) l
 
   -- what the four make is in order where the source's entries are
   pub four_sorted : (cells : S → List Cell) → ((s : S) → Ascends above (cells s)) → (f : Four S) → Ascends above (four_cells cells f)
   unfolding four_cells
-  four_sorted cells up f = level_sorted (level_cells (level_cells (level_cells cells))) (level_sorted (level_cells (level_cells cells)) (level_sorted (level_cells cells) (level_sorted cells up))) f.levels
+  four_sorted cells up (Bare s) = up s
+  four_sorted cells up (Levels l) = level_sorted (level_cells (level_cells (level_cells cells))) (level_sorted (level_cells (level_cells cells)) (level_sorted (level_cells cells) (level_sorted cells up))) l
 
   -- what the four make is within bounds where the source's entries are
   pub four_bounded : (cells : S → List Cell) → ((s : S) → AreEntries (cells s)) → (f : Four S) → AreEntries (four_cells cells f)
   unfolding four_cells
-  four_bounded cells all f = level_bounded (level_cells (level_cells (level_cells cells))) (level_bounded (level_cells (level_cells cells)) (level_bounded (level_cells cells) (level_bounded cells all))) f.levels
+  four_bounded cells all (Bare s) = all s
+  four_bounded cells all (Levels l) = level_bounded (level_cells (level_cells (level_cells cells))) (level_bounded (level_cells (level_cells cells)) (level_bounded (level_cells cells) (level_bounded cells all))) l
 
 -- the parts of levels that stand one over another
 module _ {S : Type 0} where
@@ -40,4 +46,5 @@ module _ {S : Type 0} where
 module _ {S : Type 0} where
   -- of four
   unfoldable pub four_valid : (S → List Cell) → (S → List Cell) → (S → Type 0) → Four S → Type 0
-  four_valid cells rest valid f = two_valid (level_cells (level_cells cells)) (level_rest (level_rest rest)) (two_valid cells rest valid) f.levels
+  four_valid cells rest valid (Bare s) = valid s
+  four_valid cells rest valid (Levels l) = two_valid (level_cells (level_cells cells)) (level_rest (level_rest rest)) (two_valid cells rest valid) l

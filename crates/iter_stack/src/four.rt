@@ -5,11 +5,12 @@ use cell_key::{EntryRef, NoMemory, Range};
 use iter_contract::SortedSource;
 use std::alloc::Global;
 
-/// Four levels, one over another. A deep nest of levels stands in such fours, since the proof of a call grows with the
-/// depth of the types that it names.
+/// Four levels, one over another, or none where no iterator is left for them. A deep nest of levels stands in such fours,
+/// since the proof of a call grows with the depth of the types that it names.
 #[derive(Drop)]
-pub struct Four<S> {
-    pub(crate) levels: Level<Level<Level<Level<S>>>>,
+pub enum Four<S> {
+    Bare(S),
+    Levels(Level<Level<Level<Level<S>>>>),
 }
 
 impl<S: SortedSource> SortedSource for Four<S> {
@@ -28,19 +29,30 @@ impl<S: SortedSource> SortedSource for Four<S> {
     ghost bounded = { four_bounded S.cells S.bounded };
 
     fn seek(&mut self, range: &Range<'_>) -> Result<(), NoMemory> {
-        self.levels.seek(range)
+        match self {
+            Four::Bare(source) => source.seek(range),
+            Four::Levels(levels) => levels.seek(range),
+        }
     }
 
     fn top(&self) -> Option<EntryRef<'_>> {
-        self.levels.top()
+        match self {
+            Four::Bare(source) => source.top(),
+            Four::Levels(levels) => levels.top(),
+        }
     }
 
     fn next(&mut self) -> Result<(), NoMemory> {
-        self.levels.next()
+        match self {
+            Four::Bare(source) => source.next(),
+            Four::Levels(levels) => levels.next(),
+        }
     }
 
     fn deep_copy(&self, alloc: Global) -> Result<Four<S>, NoMemory> {
-        let levels = self.levels.deep_copy(alloc)?;
-        Ok(Four { levels })
+        match self {
+            Four::Bare(source) => Ok(Four::Bare(source.deep_copy(alloc)?)),
+            Four::Levels(levels) => Ok(Four::Levels(levels.deep_copy(alloc)?)),
+        }
     }
 }

@@ -67,8 +67,8 @@ fn level_at<S: SortedSource>(
     Level::over(alloc, source, stage)
 }
 
-/// The iterator at place `i` and the three behind it over a source that was not sought.
-#[tactic(auto, unfolding(crate::specs::Fours::four_cells, crate::specs::Fours::four_rest, crate::specs::Fours::four_steady, crate::specs::Fours::four_valid))]
+/// The iterator at place `i` and the three behind it, as many as there are, over a source that was not sought.
+#[tactic(auto, using(crate::proofs::Past::made_past, crate::proofs::Past::steady_past), unfolding(crate::specs::Fours::four_cells, crate::specs::Fours::four_rest, crate::specs::Fours::four_steady, crate::specs::Fours::four_valid))]
 pub(crate) fn four_over<S: SortedSource>(
     alloc: Global,
     config: &Config,
@@ -86,9 +86,12 @@ pub(crate) fn four_over<S: SortedSource>(
         (four_cells S.cells it) (four_rest S.rest it) (four_steady S.steady it)
         (four_valid S.cells S.rest S.valid it)) }
 {
+    if config.count() <= i {
+        return Ok(Four::Bare(source));
+    }
     let one = level_at(alloc, config, usage, i, source)?;
     let two = level_at(alloc, config, usage, i + 1, one)?;
     let three = level_at(alloc, config, usage, i + 2, two)?;
     let levels = level_at(alloc, config, usage, i + 3, three)?;
-    Ok(Four { levels })
+    Ok(Four::Levels(levels))
 }

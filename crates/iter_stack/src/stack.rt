@@ -6,9 +6,9 @@ use cell_key::{EntryRef, NoMemory, Range};
 use iter_contract::SortedSource;
 use std::alloc::Global;
 
-/// The iterators of a configuration over a leaf, one over another. The lowest level drops what deletes hide, and sixteen
-/// stand over it; one that no iterator needs shows what is under it as it is. It is steady where its leaf is, and no
-/// iterator that runs adds arrays.
+/// The iterators of a configuration over a leaf, one over another. The lowest level drops what deletes hide, and up to
+/// sixteen stand over it; one whose iterator does not run shows what is under it as it is. It is steady where its leaf is,
+/// and no iterator that runs adds arrays.
 #[derive(Drop)]
 pub struct Stack<S> {
     pub(crate) levels: Four<Four<Four<Four<Level<S>>>>>,
