@@ -1,0 +1,5 @@
+pub mod Fields
+pub mod TextEntries
+pub mod Texts
+pub mod TextAnswers
+pub mod SameRow

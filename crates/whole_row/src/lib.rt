@@ -1,0 +1,13 @@
+//! Whole rows: a row's entries as one text, how it is written and read, and the iterator that answers one entry for each row.
+#![tactic(auto)]
+
+mod buf;
+mod error;
+mod gather;
+mod input;
+mod reading;
+mod writing;
+
+pub use error::RowError;
+pub use reading::decode_row;
+pub use writing::encode_row;
