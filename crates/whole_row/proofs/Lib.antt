@@ -3,3 +3,5 @@ pub mod TextEntries
 pub mod Texts
 pub mod TextAnswers
 pub mod SameRow
+pub mod Passes
+pub mod Seeks

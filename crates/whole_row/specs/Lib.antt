@@ -5,3 +5,6 @@ pub mod RowAnswers
 pub mod Bodies
 pub mod BufParts
 pub mod RowPasses
+pub mod RowLaws
+pub mod RowStages
+pub mod RowParts

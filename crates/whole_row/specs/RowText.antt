@@ -1,5 +1,5 @@
 -- The text of a whole row: its entries without the row. All numbers are big-endian. The format is this project's own.
-use Rattle.std.specs.Prelude.{ℕ, ℤ, pos, ◌+◌, List, [], ◌++◌, length}
+use Rattle.std.specs.Prelude.{ℕ, ℤ, pos, List, ◌++◌, length}
 use Rattle.std.specs.Int.{w64, cast_unsigned}
 use Rattle.std.specs.List.{flat_map}
 use Rattle.byteorder.specs.Endian.{big_bytes}

@@ -6,8 +6,14 @@ mod error;
 mod gather;
 mod input;
 mod reading;
+mod row_iter;
+mod stage;
+mod steps;
 mod writing;
 
 pub use error::RowError;
 pub use reading::decode_row;
+pub use row_iter::RowIter;
+pub use stage::RowStage;
+pub use steps::{row_next, row_seek, row_top};
 pub use writing::encode_row;

@@ -1,4 +1,4 @@
-use Rattle.std.proofs.Common.{◌≡◌, ap, ◌∙◌, subst, arith}
+use Rattle.std.proofs.Common.{ap, ◌∙◌, subst, arith}
 use Rattle.whole_row.specs.RowReading.{row_reading}
 use Rattle.whole_row.specs.RowAnswers.{Gives}
 use Rattle.whole_row.proofs.Texts.{text_again}

@@ -1,4 +1,4 @@
-use Rattle.std.proofs.Common.{◌≡◌, ◌-◌, [], ◌∷◌, ◌++◌, ap, ◌∙◌, None, Some, refl}
+use Rattle.std.proofs.Common.{◌-◌, [], ◌∷◌, ◌++◌, ap, ◌∙◌, None, Some, refl}
 use Rattle.std.specs.Option.{option_map}
 use Rattle.cell_key.specs.Views.{cell_of}
 use Rattle.whole_row.specs.RowAnswers.{unread_of}
