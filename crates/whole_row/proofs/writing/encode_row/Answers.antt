@@ -9,7 +9,7 @@ text : (c : After-drop-buf-inside-2) → IfOk c.of.result (λ text. text ≡ row
 text c =
     let l = c.loop-entry in
     subst (λ all. IfOk c.of.result (λ text. text ≡ all))
-    (c.text.ensures ∙ all_put l.buf l.entry-index c.as_slice-entry-items.result.now c.args.entries.now l.invariant.count l.invariant.bytes l.invariant.items l.auto.entry-index-end c.loop-entry-test.false) c.of.ensures
+    (c.text.ensures ∙ all_put l.buf l.entry-index _ c.args.entries.now l.invariant.count l.invariant.bytes l.invariant.items l.auto.entry-index-end c.loop-entry-test.false) c.of.ensures
 
 pub returns-clause-text : goal.returns-clause-text
 returns-clause-text c = text c
