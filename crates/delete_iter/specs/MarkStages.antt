@@ -1,29 +1,26 @@
--- What a stage says of what is left of its source. All of this is this project's own.
-use Rattle.std.specs.Prelude.{◌≡◌, true, false, cond, List, [], Option, None, filter}
-use Rattle.tablet_model.specs.Cell.{Cell, Column}
-use Rattle.delete_iter.specs.Passes.{mark_from, is_settled, is_put, begins_with_put}
-use Rattle.delete_iter.specs.declared.stage.MarkStage.{MarkStage}
+-- What a stage hides and keeps. All of this is this project's own.
+use Rattle.std.specs.Prelude.{◌&&◌, not, Bool, true, false, cond, List, Option, Some, None}
+use Rattle.tablet_model.specs.Cell.{Cell, Column, column_of}
+use Rattle.tablet_model.specs.Columns.{is_column}
+use Rattle.tablet_model.specs.Markers.{mark}
+use Rattle.delete_iter.specs.declared.mark_stage.MarkStage.{MarkStage}
+
+-- what it makes of a list
+abbrev pub mark_made : MarkStage → List Cell → List Cell
+mark_made s = mark
 
 -- the column that is hidden, if one is
 abbrev pub hidden_in : MarkStage → Option Column
-hidden_in stage = cond stage.is_hiding stage.column None
+hidden_in s = cond s.is_hiding s.column None
 
--- the stage is new, or its last seek or step found no memory
-abbrev pub IsUnsought : MarkStage → Type 0
-IsUnsought stage = stage.is_sought ≡ false
+-- whether an entry is kept: it is not of the hidden column
+abbrev pub keeps : MarkStage → Cell → Bool
+keeps s e = not (is_column (hidden_in s) (column_of e.key))
 
--- the marked entries that are left, where `rest` is left of the source
-abbrev pub mark_left : MarkStage → List Cell → List Cell
-mark_left stage rest = cond stage.is_sought (mark_from (hidden_in stage) rest) []
+-- behind an entry: a marker that is kept hides its column
+abbrev pub passed : MarkStage → Cell → MarkStage
+passed s e = cond (keeps s e && e.key.deleted) (record s { column = Some (column_of e.key); is_hiding = true }) s
 
--- where it was sought, the first entry that is left of the source is kept
-abbrev pub MarkFits : MarkStage → List Cell → Type 0
-MarkFits stage rest = stage.is_sought ≡ true → is_settled (hidden_in stage) rest ≡ true
-
--- the live entries that are left: the marked ones without the markers
-abbrev pub live_left : MarkStage → List Cell → List Cell
-live_left stage rest = filter is_put (mark_left stage rest)
-
--- besides, the first of the marked entries that are left is no marker
-abbrev pub LiveFits : MarkStage → List Cell → Type 0
-LiveFits stage rest = MarkFits stage rest × (begins_with_put (mark_left stage rest) ≡ true)
+-- before a list
+abbrev pub unhidden : MarkStage → MarkStage
+unhidden s = record s { is_hiding = false }

@@ -1,14 +1,10 @@
-// What delete markers leave of a source: as stages for a stack, and as iterators of their own.
+// What delete markers leave of a source: live and marked entries, as stages, and as iterators over any source.
 #![tactic(auto)]
 
-mod live;
-mod live_iter;
-mod mark;
-mod mark_iter;
-mod stage;
+mod iters;
+mod live_stage;
+mod mark_stage;
 
-pub use live::{live_next, live_seek, live_top};
-pub use live_iter::LiveIter;
-pub use mark::{mark_next, mark_seek, mark_top};
-pub use mark_iter::MarkIter;
-pub use stage::MarkStage;
+pub use iters::{LiveIter, MarkIter, live_iter, mark_iter};
+pub use live_stage::LiveStage;
+pub use mark_stage::MarkStage;

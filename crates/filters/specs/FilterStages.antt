@@ -1,35 +1,38 @@
--- What a stage says of what is left of its source. All of this is this project's own.
-use Rattle.std.specs.Prelude.{◌≡◌, ◌||◌, Bool, true, false, cond, List, [], ◌∷◌}
+-- What a filter keeps. All of this is this project's own.
+use Rattle.std.specs.Prelude.{◌≡◌, ◌||◌, Bool, List}
 use Rattle.std.specs.Arc.{arc_value}
 use Rattle.tablet_model.specs.Cell.{Cell}
+use Rattle.tablet_model.specs.Cuts.{Span, is_behind, within}
 use Rattle.tablet_model.specs.Filters.{filtered}
+use Rattle.tablet_model.specs.Sorted.{from_first}
 use Rattle.iter_config.specs.Predicates.{keeps}
-use Rattle.filters.specs.declared.stage.FilterStage.{FilterStage}
+use Rattle.stages.specs.Passes.{kept_from}
+use Rattle.stages.specs.TestLaws.{test_pass, test_narrows}
+use Rattle.filters.specs.declared.filter_stage.FilterStage.{FilterStage}
 
 -- which entries that are no markers it keeps
 abbrev pub test_of : FilterStage → Cell → Bool
-test_of stage = keeps (arc_value stage.predicate) stage.negate
+test_of s = keeps (arc_value s.predicate) s.negate
+
+-- what it makes of a list
+abbrev pub filter_made : FilterStage → List Cell → List Cell
+filter_made s = filtered (test_of s)
 
 -- whether it keeps an entry
 abbrev pub passes : FilterStage → Cell → Bool
-passes stage e = e.key.deleted || test_of stage e
+passes s e = e.key.deleted || test_of s e
 
--- it keeps the first entry that is left of the source, or none is left
-abbrev pub is_settled : FilterStage → List Cell → Bool
-is_settled stage [] = true
-is_settled stage (e ∷ es) = passes stage e
+-- it is the same behind each entry
+abbrev pub same : FilterStage → Cell → FilterStage
+same s e = s
 
-abbrev pub IsSettled : FilterStage → List Cell → Type 0
-IsSettled stage rest = is_settled stage rest ≡ true
+-- its pass keeps what the filter makes of a list
+pub filter_pass : (s : FilterStage) (list : List Cell) → kept_from passes same s list ≡ filter_made s list
+unfolding filtered
+filter_pass s list = test_pass passes s list
 
--- the stage is new, or its last seek or step found no memory
-abbrev pub IsUnsought : FilterStage → Type 0
-IsUnsought stage = stage.is_sought ≡ false
-
--- what it has left, where `rest` is left of the source
-abbrev pub filter_left : FilterStage → List Cell → List Cell
-filter_left stage rest = cond stage.is_sought (filtered (test_of stage) rest) []
-
--- where it was sought, it is settled
-abbrev pub FilterFits : FilterStage → List Cell → Type 0
-FilterFits stage rest = stage.is_sought ≡ true → IsSettled stage rest
+-- it makes of a range what the range has of what it makes of all
+pub filter_narrows : (s : FilterStage) (span : Span) (list : List Cell)
+    → from_first (λ e. is_behind span.start e.key) (filter_made s (within span list)) ≡ within span (filter_made s list)
+unfolding filtered
+filter_narrows s span list = test_narrows (passes s) span list

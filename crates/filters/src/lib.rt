@@ -1,12 +1,10 @@
-// Filters: entries that pass a test of a configuration, over any source.
+// Filters: what passes a test of a configuration, as a stage, and as an iterator over any source.
 #![tactic(auto)]
 
-mod filter;
-mod filter_iter;
-mod stage;
+mod filter_stage;
+mod iter;
 mod testing;
 
-pub use filter::{filter_next, filter_seek, filter_top};
-pub use filter_iter::FilterIter;
-pub use stage::FilterStage;
+pub use filter_stage::FilterStage;
+pub use iter::{FilterIter, filter_iter};
 pub use testing::holds;

@@ -23,12 +23,17 @@ use Rattle.combiners.specs.LongParts.{long_reduction, long_joined}
 use Rattle.combiners.specs.declared.array_reducer.ArrayReducer.{ArrayReducer}
 use Rattle.combiners.specs.declared.long_reducer.LongReducer.{LongReducer}
 use Rattle.combiners.specs.declared.stage.CombineStage.{CombineStage}
-use Rattle.filters.specs.FilterStages.{test_of, IsUnsought}
-use Rattle.filters.specs.declared.stage.FilterStage.{FilterStage}
+use Rattle.filters.specs.FilterStages.{test_of, filter_made}
+use Rattle.filters.specs.declared.filter_stage.FilterStage.{FilterStage}
 use Rattle.iter_config.specs.Predicates.{is_of_column, keeps, filter_stage}
 use Rattle.iter_config.specs.declared.predicate.Predicate.{Predicate}
-use Rattle.iter_stack.specs.LevelStages.{AreCombinable, IsFresh}
+use Rattle.stages.specs.Passes.{shown}
+use Rattle.stages.specs.declared.cursor.Cursor.{Cursor}
+use Rattle.iter_stack.specs.DropStages.{drop_made, drop_keeps, drop_passed}
+use Rattle.iter_stack.specs.LevelStages.{AreCombinable, IsFresh, IsBottom}
 use Rattle.iter_stack.specs.Usages.{is_of_arrays}
+use Rattle.iter_stack.specs.declared.drop_stage.DropStage.{DropStage}
+use Rattle.iter_stack.specs.declared.stage.LevelStage.{LevelStage}
 use Rattle.iter_stack.specs.declared.stage.LevelStage.TheVariants as level
 
 -- combiners of the same columns make the same of equal lists
@@ -97,20 +102,45 @@ pub fresh_sums : (columns : List ColumnName) (e : Encoding) (s : CombineStage Ar
 unfolding reduction_of
 fresh_sums columns e s c h unsought = fresh_arrays columns (array_reduction e) (λ source. false) s c h unsought and_false
 
--- a new filter
-pub fresh_filter : (predicate : Predicate) (negate : Bool) (s : FilterStage) → test_of s ≡ keeps predicate negate → IsUnsought s
-    → IsFresh (stage (filter_stage predicate negate)) (λ source. source) (λ list. ⊤) (level.Filter s)
-unfolding stage filter_stage
-fresh_filter predicate negate s same unsought = record {
-  same_cells = λ list. ap (λ test. filtered test list) same ∙ filters (is_of_column predicate) list;
-  unsought = cond_false s.is_sought unsought;
-  same_steady = λ source. refl;
-  takes = λ list t sought. refl;
-}
-  where
-    filters : (b : Bool) (list : List Cell) → filtered (keeps predicate negate) list ≡ stage (cond b (by_column (keeps predicate negate)) (by_cell (keeps predicate negate))) list
-    filters true list = refl
-    filters false list = refl
+-- stages of one meaning make the same of equal lists
+pub made_alike : {F G : List Cell → List Cell} {A B : List Cell} → F ≡ G → A ≡ B → F A ≡ G B
+made_alike {F} {G} {A} {B} f e = ap (λ h. h A) f ∙ ap G e
 
-    cond_false : (b : Bool) → b ≡ false → cond b (filtered (test_of s) []) [] ≡ []
-    cond_false b h = ap (λ c. cond c (filtered (test_of s) []) []) h
+-- a new stage that drops entries
+pub bottom_drop : (c : Cursor DropStage) (stage : DropStage) → c.stage ≡ stage → c.is_sought ≡ false → IsBottom (drop_made stage) (level.Drop c)
+bottom_drop c stage same unsought = record {
+  same_cells = λ list. ap (λ s. drop_made s list) same;
+  unsought = λ rest. ap (λ b. cond b (shown drop_keeps drop_passed c.stage rest) []) unsought;
+  same_steady = λ source. refl;
+  fits = λ list rest. tt;
+}
+
+-- and a copy of one
+pub fresh_drop : (copy c : Cursor DropStage) → drop_made copy.stage ≡ drop_made c.stage → copy.is_sought ≡ false
+    → IsFresh (drop_made c.stage) (λ source. source) (λ list. ⊤) (level.Drop copy)
+fresh_drop copy c same unsought = record {
+  same_cells = λ list. ap (λ f. f list) same;
+  unsought = ap (λ b. cond b [] []) unsought;
+  same_steady = λ source. refl;
+  takes = λ list t. tt;
+}
+
+-- a stage for any source is one for some
+pub fresh_bottom : {made other : List Cell → List Cell} {s : LevelStage} → IsBottom made s → ((list : List Cell) → made list ≡ other list)
+    → IsFresh other (λ source. source) (λ list. ⊤) s
+fresh_bottom bottom same = record {
+  same_cells = λ list. bottom.same_cells list ∙ same list;
+  unsought = bottom.unsought [];
+  same_steady = bottom.same_steady;
+  takes = λ list t. bottom.fits list [];
+}
+
+-- a filter makes what its iterator makes
+pub filters_alike : (predicate : Predicate) (negate : Bool) (s : FilterStage) → test_of s ≡ keeps predicate negate
+    → (list : List Cell) → filter_made s list ≡ stage (filter_stage predicate negate) list
+unfolding stage filter_stage
+filters_alike predicate negate s same list = ap (λ test. filtered test list) same ∙ go (is_of_column predicate)
+  where
+    go : (b : Bool) → filtered (keeps predicate negate) list ≡ stage (cond b (by_column (keeps predicate negate)) (by_cell (keeps predicate negate))) list
+    go true = refl
+    go false = refl

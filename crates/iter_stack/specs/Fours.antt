@@ -32,10 +32,17 @@ module _ {S : Type 0} where
   four_sorted cells up (Levels l) = level_sorted (level_cells (level_cells (level_cells cells))) (level_sorted (level_cells (level_cells cells)) (level_sorted (level_cells cells) (level_sorted cells up))) l
 
   -- what the four make is within bounds where the source's entries are
-  pub four_bounded : (cells : S → List Cell) → ((s : S) → AreEntries (cells s)) → (f : Four S) → AreEntries (four_cells cells f)
+  pub four_bounded : (cells : S → List Cell) → ((s : S) → Ascends above (cells s)) → ((s : S) → AreEntries (cells s))
+      → (f : Four S) → AreEntries (four_cells cells f)
   unfolding four_cells
-  four_bounded cells all (Bare s) = all s
-  four_bounded cells all (Levels l) = level_bounded (level_cells (level_cells (level_cells cells))) (level_bounded (level_cells (level_cells cells)) (level_bounded (level_cells cells) (level_bounded cells all))) l
+  four_bounded cells up all (Bare s) = all s
+  four_bounded cells up all (Levels l) =
+      let one = level_cells cells in
+      let up_one = level_sorted cells up in
+      let two = level_cells one in
+      let up_two = level_sorted one up_one in
+      level_bounded (level_cells two) (level_sorted two up_two)
+      (level_bounded two up_two (level_bounded one up_one (level_bounded cells up all))) l
 
 -- the parts of levels that stand one over another
 module _ {S : Type 0} where

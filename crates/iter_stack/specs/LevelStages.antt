@@ -4,65 +4,48 @@ use Rattle.std.specs.Arc.{arc_value}
 use Rattle.tablet_model.specs.Cell.{Cell}
 use Rattle.tablet_model.specs.Order.{above}
 use Rattle.tablet_model.specs.Sorted.{Ascends}
-use Rattle.tablet_model.specs.Bounds.{IsEntry, AreEntries}
-use Rattle.tablet_model.specs.Markers.{live, is_live, mark, is_unmarked}
-use Rattle.tablet_model.specs.Versions.{versions, is_recent}
-use Rattle.tablet_model.specs.Filters.{filtered}
+use Rattle.tablet_model.specs.Bounds.{AreEntries}
 use Rattle.tablet_model.specs.Reductions.{Reduction}
 use Rattle.tablet_model.specs.Reading.{AreInFront}
-use Rattle.tablet_model.proofs.Sums.{all_filter}
-use Rattle.tablet_model.proofs.OneColumn.{Ascends-live}
-use Rattle.tablet_model.proofs.Risings.{all_kept, Ascends-mark, Ascends-versions, Ascends-filtered, Ascends-combined}
+use Rattle.tablet_model.proofs.Risings.{Ascends-combined}
 use Rattle.cell_key.specs.declared.column_name.ColumnName.{ColumnName}
 use Rattle.cell_key.specs.Listed.{column_listed, listed_of_columns}
-use Rattle.delete_iter.specs.MarkStages.{mark_left, MarkFits, live_left, LiveFits}
-use Rattle.versioning.specs.VersionStages.{most_in, version_left, VersionFits}
-use Rattle.filters.specs.FilterStages.{test_of, passes, filter_left, FilterFits}
+use Rattle.stages.specs.Cursors.{staged_left}
+use Rattle.stages.specs.Keeping.{kept_sorted, kept_bounded}
 use Rattle.combiners.specs.ArrayParts.{array_reducer_reduction, array_reducer_joined, array_reducer_steady}
 use Rattle.combiners.specs.CombineLaws.{combined_bounded}
 use Rattle.combiners.specs.CombineStages.{combine_cells, combine_left, combine_steady, CombineFits}
 use Rattle.combiners.specs.Gathers.{AreRead}
 use Rattle.combiners.specs.LongParts.{long_reduction, long_joined, long_steady}
+use Rattle.iter_stack.specs.DropStages.{drop_made, drop_keeps, drop_passed, drop_restarted, drop_pass}
 use Rattle.iter_stack.specs.declared.stage.LevelStage.{LevelStage}
 use Rattle.iter_stack.specs.declared.stage.LevelStage.TheVariants as level
 
 -- what a stage makes of its source's entries
 abbrev pub stage_cells : LevelStage → List Cell → List Cell
 stage_cells level.Same list = list
-stage_cells (level.Live s) list = live list
-stage_cells (level.Mark s) list = mark list
-stage_cells (level.Filter s) list = filtered (test_of s) list
-stage_cells (level.Versions s) list = versions (most_in s) list
+stage_cells (level.Drop c) list = drop_made c.stage list
 stage_cells (level.CombineLongs s) list = combine_cells long_reduction s list
 stage_cells (level.CombineArrays s) list = combine_cells array_reducer_reduction s list
 
 -- what it has left, where `rest` is left of the source
 abbrev pub stage_left : LevelStage → List Cell → List Cell
 stage_left level.Same rest = rest
-stage_left (level.Live s) rest = live_left s rest
-stage_left (level.Mark s) rest = mark_left s rest
-stage_left (level.Filter s) rest = filter_left s rest
-stage_left (level.Versions s) rest = version_left s rest
+stage_left (level.Drop c) rest = staged_left drop_keeps drop_passed c rest
 stage_left (level.CombineLongs s) rest = combine_left long_reduction long_joined s rest
 stage_left (level.CombineArrays s) rest = combine_left array_reducer_reduction array_reducer_joined s rest
 
 -- whether it is steady, where `source` says whether the source is
 abbrev pub stage_steady : LevelStage → Bool → Bool
 stage_steady level.Same source = source
-stage_steady (level.Live s) source = source
-stage_steady (level.Mark s) source = source
-stage_steady (level.Filter s) source = source
-stage_steady (level.Versions s) source = source
+stage_steady (level.Drop c) source = source
 stage_steady (level.CombineLongs s) source = combine_steady long_steady s source
 stage_steady (level.CombineArrays s) source = combine_steady array_reducer_steady s source
 
 -- it fits to a source that has these entries, of which `rest` is left
 abbrev pub StageFits : LevelStage → List Cell → List Cell → Type 0
 StageFits level.Same cells rest = ⊤
-StageFits (level.Live s) cells rest = LiveFits s rest
-StageFits (level.Mark s) cells rest = MarkFits s rest
-StageFits (level.Filter s) cells rest = FilterFits s rest
-StageFits (level.Versions s) cells rest = VersionFits s rest
+StageFits (level.Drop c) cells rest = ⊤
 StageFits (level.CombineLongs s) cells rest = CombineFits long_reduction long_joined s cells rest
 StageFits (level.CombineArrays s) cells rest = CombineFits array_reducer_reduction array_reducer_joined s cells rest
 
@@ -73,10 +56,7 @@ AreCombinable names r list = AreRead names r list × AreInFront (column_listed n
 -- what a stage that is not sought asks of its source's entries
 abbrev pub StageTakes : LevelStage → List Cell → Type 0
 StageTakes level.Same cells = ⊤
-StageTakes (level.Live s) cells = ⊤
-StageTakes (level.Mark s) cells = ⊤
-StageTakes (level.Filter s) cells = ⊤
-StageTakes (level.Versions s) cells = ⊤
+StageTakes (level.Drop c) cells = ⊤
 StageTakes (level.CombineLongs s) cells = AreCombinable (arc_value s.columns) (long_reduction s.reducer) cells
 StageTakes (level.CombineArrays s) cells = AreCombinable (arc_value s.columns) (array_reducer_reduction s.reducer) cells
 
@@ -98,24 +78,19 @@ pub record IsBottom (cells : List Cell → List Cell) (it : LevelStage) : Type 0
 -- what a stage makes is in order
 pub stage_sorted : (s : LevelStage) (list : List Cell) → Ascends above list → Ascends above (stage_cells s list)
 stage_sorted level.Same list up = up
-stage_sorted (level.Live s) list up = Ascends-live list up
-stage_sorted (level.Mark s) list up = Ascends-mark list up
-stage_sorted (level.Filter s) list up = Ascends-filtered (test_of s) list up
-stage_sorted (level.Versions s) list up = Ascends-versions (most_in s) list up
+stage_sorted (level.Drop c) list up =
+    kept_sorted drop_keeps drop_passed (drop_restarted c.stage) list up (drop_pass c.stage list up)
 stage_sorted (level.CombineLongs s) list up =
     Ascends-combined (column_listed (arc_value s.columns)) (listed_of_columns (arc_value s.columns)) (long_reduction s.reducer) list up
 stage_sorted (level.CombineArrays s) list up =
     Ascends-combined (column_listed (arc_value s.columns)) (listed_of_columns (arc_value s.columns)) (array_reducer_reduction s.reducer) list up
 
 -- what a stage makes is within bounds
-pub stage_bounded : (s : LevelStage) (list : List Cell) → AreEntries list → AreEntries (stage_cells s list)
-unfolding live mark filtered versions
-stage_bounded level.Same list all = all
-stage_bounded (level.Live s) list all = all_filter IsEntry (is_live list) list all
-stage_bounded (level.Mark s) list all = all_kept IsEntry is_unmarked [] list all
-stage_bounded (level.Filter s) list all = all_filter IsEntry (passes s) list all
-stage_bounded (level.Versions s) list all = all_kept IsEntry (is_recent (most_in s)) [] list all
-stage_bounded (level.CombineLongs s) list all =
+pub stage_bounded : (s : LevelStage) (list : List Cell) → Ascends above list → AreEntries list → AreEntries (stage_cells s list)
+stage_bounded level.Same list up all = all
+stage_bounded (level.Drop c) list up all =
+    kept_bounded drop_keeps drop_passed (drop_restarted c.stage) list all (drop_pass c.stage list up)
+stage_bounded (level.CombineLongs s) list up all =
     combined_bounded (column_listed (arc_value s.columns)) (long_reduction s.reducer) list all
-stage_bounded (level.CombineArrays s) list all =
+stage_bounded (level.CombineArrays s) list up all =
     combined_bounded (column_listed (arc_value s.columns)) (array_reducer_reduction s.reducer) list all

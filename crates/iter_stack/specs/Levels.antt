@@ -43,6 +43,8 @@ module _ {S : Type 0} where
   first_bounded cells all (s ∷ ss) = all s
 
   -- they are within bounds where the source's are
-  pub level_bounded : (cells : S → List Cell) → ((s : S) → AreEntries (cells s)) → (l : Level S) → AreEntries (level_cells cells l)
+  pub level_bounded : (cells : S → List Cell) → ((s : S) → Ascends above (cells s)) → ((s : S) → AreEntries (cells s))
+      → (l : Level S) → AreEntries (level_cells cells l)
   unfolding level_cells
-  level_bounded cells all l = stage_bounded l.stage (at_first cells [] l.sources.items) (first_bounded cells all l.sources.items)
+  level_bounded cells up all l =
+      stage_bounded l.stage (at_first cells [] l.sources.items) (first_sorted cells up l.sources.items) (first_bounded cells all l.sources.items)

@@ -1,6 +1,7 @@
 pub mod Usages
 pub mod Firsts
 pub mod Fours
+pub mod DropStages
 pub mod LevelStages
 pub mod Levels
 pub mod Stacks

@@ -39,8 +39,15 @@ module _ {S : Type 0} where
       (four_sorted (four_cells (level_cells cells)) (four_sorted (level_cells cells) (level_sorted cells up)))) s.levels
 
   -- they are within bounds where the leaf's are
-  pub stack_bounded : (cells : S → List Cell) → ((s : S) → AreEntries (cells s)) → (s : Stack S) → AreEntries (stack_cells cells s)
+  pub stack_bounded : (cells : S → List Cell) → ((s : S) → Ascends above (cells s)) → ((s : S) → AreEntries (cells s))
+      → (s : Stack S) → AreEntries (stack_cells cells s)
   unfolding stack_cells
-  stack_bounded cells all s =
-      four_bounded (four_cells (four_cells (four_cells (level_cells cells)))) (four_bounded (four_cells (four_cells (level_cells cells)))
-      (four_bounded (four_cells (level_cells cells)) (four_bounded (level_cells cells) (level_bounded cells all)))) s.levels
+  stack_bounded cells up all s =
+      let bottom = level_cells cells in
+      let up_bottom = level_sorted cells up in
+      let one = four_cells bottom in
+      let up_one = four_sorted bottom up_bottom in
+      let two = four_cells one in
+      let up_two = four_sorted one up_one in
+      four_bounded (four_cells two) (four_sorted two up_two)
+      (four_bounded two up_two (four_bounded one up_one (four_bounded bottom up_bottom (level_bounded cells up all)))) s.levels

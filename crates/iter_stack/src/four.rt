@@ -26,7 +26,7 @@ impl<S: SortedSource> SortedSource for Four<S> {
 
     ghost sorted = { four_sorted S.cells S.sorted };
 
-    ghost bounded = { four_bounded S.cells S.bounded };
+    ghost bounded = { four_bounded S.cells S.sorted S.bounded };
 
     fn seek(&mut self, range: &Range<'_>) -> Result<(), NoMemory> {
         match self {

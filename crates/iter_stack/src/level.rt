@@ -5,11 +5,9 @@ ghost use Rattle.std.specs.Prelude.{◌<◌, length};
 use crate::stage::LevelStage;
 use cell_key::{EntryRef, NoMemory, Range};
 use combiners::{combine_next, combine_seek, combine_top};
-use delete_iter::{live_next, live_seek, live_top, mark_next, mark_seek, mark_top};
-use filters::{filter_next, filter_seek, filter_top};
 use iter_contract::SortedSource;
+use stages::{staged_next, staged_seek, staged_top};
 use std::alloc::Global;
-use versioning::{version_next, version_seek, version_top};
 
 /// One stage over a source.
 #[derive(Drop)]
@@ -53,15 +51,12 @@ impl<S: SortedSource> SortedSource for Level<S> {
 
     ghost sorted = { level_sorted S.cells S.sorted };
 
-    ghost bounded = { level_bounded S.cells S.bounded };
+    ghost bounded = { level_bounded S.cells S.sorted S.bounded };
 
     fn seek(&mut self, range: &Range<'_>) -> Result<(), NoMemory> {
         match &mut self.stage {
             LevelStage::Same => self.sources[0].seek(range),
-            LevelStage::Live(stage) => live_seek(&mut self.sources[0], stage, range),
-            LevelStage::Mark(stage) => mark_seek(&mut self.sources[0], stage, range),
-            LevelStage::Filter(stage) => filter_seek(&mut self.sources[0], stage, range),
-            LevelStage::Versions(stage) => version_seek(&mut self.sources[0], stage, range),
+            LevelStage::Drop(cursor) => staged_seek(&mut self.sources[0], cursor, range),
             LevelStage::CombineLongs(stage) => combine_seek(&mut self.sources[0], stage, range),
             LevelStage::CombineArrays(stage) => combine_seek(&mut self.sources[0], stage, range),
         }
@@ -70,10 +65,7 @@ impl<S: SortedSource> SortedSource for Level<S> {
     fn top(&self) -> Option<EntryRef<'_>> {
         match &self.stage {
             LevelStage::Same => self.sources[0].top(),
-            LevelStage::Live(stage) => live_top(&self.sources[0], stage),
-            LevelStage::Mark(stage) => mark_top(&self.sources[0], stage),
-            LevelStage::Filter(stage) => filter_top(&self.sources[0], stage),
-            LevelStage::Versions(stage) => version_top(&self.sources[0], stage),
+            LevelStage::Drop(cursor) => staged_top(&self.sources[0], cursor),
             LevelStage::CombineLongs(stage) => combine_top(&self.sources[0], stage),
             LevelStage::CombineArrays(stage) => combine_top(&self.sources[0], stage),
         }
@@ -82,10 +74,7 @@ impl<S: SortedSource> SortedSource for Level<S> {
     fn next(&mut self) -> Result<(), NoMemory> {
         match &mut self.stage {
             LevelStage::Same => self.sources[0].next(),
-            LevelStage::Live(stage) => live_next(&mut self.sources[0], stage),
-            LevelStage::Mark(stage) => mark_next(&mut self.sources[0], stage),
-            LevelStage::Filter(stage) => filter_next(&mut self.sources[0], stage),
-            LevelStage::Versions(stage) => version_next(&mut self.sources[0], stage),
+            LevelStage::Drop(cursor) => staged_next(&mut self.sources[0], cursor),
             LevelStage::CombineLongs(stage) => combine_next(&mut self.sources[0], stage),
             LevelStage::CombineArrays(stage) => combine_next(&mut self.sources[0], stage),
         }

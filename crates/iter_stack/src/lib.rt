@@ -3,6 +3,7 @@
 #![tactic(auto)]
 
 mod building;
+mod drop_stage;
 mod four;
 mod job;
 mod level;

@@ -27,7 +27,7 @@ impl<S: SortedSource> SortedSource for Stack<S> {
 
     ghost sorted = { stack_sorted S.cells S.sorted };
 
-    ghost bounded = { stack_bounded S.cells S.bounded };
+    ghost bounded = { stack_bounded S.cells S.sorted S.bounded };
 
     fn seek(&mut self, range: &Range<'_>) -> Result<(), NoMemory> {
         self.levels.seek(range)

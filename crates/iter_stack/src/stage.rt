@@ -6,14 +6,17 @@ ghost use Rattle.number_values.specs.Values.{reduction_of};
 ghost use Rattle.iter_config.specs.Stages.{stage_of};
 ghost use Rattle.iter_stack.specs.Usages.{is_of_arrays};
 ghost use Rattle.iter_stack.specs.Places.{bottom_cells, kind_steady, KindTakes};
+ghost use Rattle.iter_stack.specs.DropStages.{drop_made};
 ghost use Rattle.iter_stack.specs.LevelStages.{stage_cells, stage_steady, StageTakes, AreCombinable, IsFresh, IsBottom};
 
+use crate::drop_stage::DropStage;
 use crate::usage::Usage;
 use cell_key::{Columns, NoMemory};
 use combiners::{ArrayReducer, CombineStage, LongReducer};
-use delete_iter::MarkStage;
+use delete_iter::{LiveStage, MarkStage};
 use filters::FilterStage;
 use iter_config::{Encoding, Kind, Op};
+use stages::Cursor;
 use std::alloc::Global;
 use std::sync::Arc;
 use versioning::VersionStage;
@@ -23,14 +26,8 @@ use versioning::VersionStage;
 pub enum LevelStage {
     /// It shows its source as it is.
     Same,
-    /// The live entries.
-    Live(MarkStage),
-    /// The entries that no marker of their column stands before.
-    Mark(MarkStage),
-    /// The entries that pass a test.
-    Filter(FilterStage),
-    /// The newest versions of each column.
-    Versions(VersionStage),
+    /// It drops entries.
+    Drop(Cursor<DropStage>),
     /// Columns of numbers become one entry each.
     CombineLongs(CombineStage<LongReducer>),
     /// Columns of arrays become one entry each.
@@ -42,11 +39,24 @@ impl LevelStage {
     pub(crate) fn bottom(alloc: Global, usage: Usage) -> Result<LevelStage, NoMemory>
         ensures { IfOk result (IsBottom (bottom_cells usage)) }
     {
-        let stage = MarkStage::new(alloc)?;
         match usage {
-            Usage::Scan | Usage::MajcFull => Ok(LevelStage::Live(stage)),
-            Usage::Minc | Usage::MajcPart => Ok(LevelStage::Mark(stage)),
+            Usage::Scan | Usage::MajcFull => {
+                let stage = DropStage::Live(LiveStage::new(alloc)?);
+                Ok(LevelStage::dropping(stage))
+            }
+            Usage::Minc | Usage::MajcPart => {
+                let stage = DropStage::Mark(MarkStage::new(alloc)?);
+                Ok(LevelStage::dropping(stage))
+            }
         }
+    }
+
+    /// What a stage drops, not sought.
+    #[tactic(auto, using(crate::proofs::Alike::bottom_drop))]
+    fn dropping(stage: DropStage) -> LevelStage
+        ensures { IsBottom (drop_made stage) result }
+    {
+        LevelStage::Drop(Cursor::new(stage))
     }
 
     /// The stage of a kind of iterator, not sought. It takes memory.
@@ -57,9 +67,13 @@ impl LevelStage {
         match kind {
             Kind::Filter { predicate, negate } => {
                 let predicate = Arc::new(alloc, predicate.copy(alloc)?)?;
-                Ok(LevelStage::Filter(FilterStage::new(predicate, *negate)))
+                let stage = DropStage::Filter(FilterStage::new(predicate, *negate));
+                Ok(LevelStage::dropping(stage))
             }
-            Kind::Versions { max } => Ok(LevelStage::Versions(VersionStage::new(alloc, *max)?)),
+            Kind::Versions { max } => {
+                let stage = DropStage::Versions(VersionStage::new(alloc, *max)?);
+                Ok(LevelStage::dropping(stage))
+            }
             Kind::Combine {
                 op,
                 columns,
@@ -102,10 +116,7 @@ impl LevelStage {
     {
         match self {
             LevelStage::Same => Ok(LevelStage::Same),
-            LevelStage::Live(_) => Ok(LevelStage::Live(MarkStage::new(alloc)?)),
-            LevelStage::Mark(_) => Ok(LevelStage::Mark(MarkStage::new(alloc)?)),
-            LevelStage::Filter(stage) => Ok(LevelStage::Filter(stage.fresh()?)),
-            LevelStage::Versions(stage) => Ok(LevelStage::Versions(stage.fresh(alloc)?)),
+            LevelStage::Drop(cursor) => Ok(LevelStage::Drop(cursor.fresh(alloc)?)),
             LevelStage::CombineLongs(stage) => Ok(LevelStage::CombineLongs(stage.fresh(alloc)?)),
             LevelStage::CombineArrays(stage) => Ok(LevelStage::CombineArrays(stage.fresh(alloc)?)),
         }

@@ -1,6 +1,6 @@
 use crate::fixtures::{key, leaves, range, source};
 use cell_key::{Bound, KeyError, KeyRef, NoMemory, Range};
-use delete_iter::{LiveIter, MarkIter};
+use delete_iter::{live_iter, mark_iter};
 use iter_contract::{SortedSource, VecSource};
 use std::alloc::Global;
 
@@ -31,7 +31,7 @@ fn is_live(
     range: &Range<'_>,
     want: &[u8],
 ) -> Result<bool, NoMemory> {
-    let live = LiveIter::new(alloc, source.deep_copy(alloc)?)?;
+    let live = live_iter(alloc, source.deep_copy(alloc)?)?;
     Ok(live.top().is_none() && leaves(alloc, &live, range, want)?)
 }
 
@@ -42,7 +42,7 @@ fn is_marked(
     range: &Range<'_>,
     want: &[u8],
 ) -> Result<bool, NoMemory> {
-    let marked = MarkIter::new(alloc, source.deep_copy(alloc)?)?;
+    let marked = mark_iter(alloc, source.deep_copy(alloc)?)?;
     Ok(marked.top().is_none() && leaves(alloc, &marked, range, want)?)
 }
 

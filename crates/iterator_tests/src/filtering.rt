@@ -2,7 +2,7 @@ ghost use Rattle.std.specs.Prelude.{◌≤◌, length};
 
 use crate::fixtures::{leaves, range, source};
 use cell_key::{Bound, ByteText, KeyError, Names, NoMemory};
-use filters::FilterIter;
+use filters::filter_iter;
 use iter_config::Predicate;
 use iter_contract::{SortedSource, VecSource};
 use std::alloc::Global;
@@ -35,7 +35,7 @@ fn keeps(
     requires { length behind.now ≤ 1024 }
 {
     let predicate = Arc::new(alloc, predicate)?;
-    let filter = FilterIter::new(alloc, source.deep_copy(alloc)?, predicate, negate)?;
+    let filter = filter_iter(source.deep_copy(alloc)?, predicate, negate);
     leaves(
         alloc,
         &filter,

@@ -4,7 +4,7 @@ use crate::fixtures::{key, leaves, range, source};
 use cell_key::{Bound, KeyError, KeyRef, NoMemory, Range};
 use iter_contract::{SortedSource, VecSource};
 use std::alloc::Global;
-use versioning::VersionIter;
+use versioning::version_iter;
 
 /// Entries of three columns.
 fn entries(alloc: Global) -> Result<VecSource, KeyError> {
@@ -34,7 +34,7 @@ fn keeps(
     requires some { 1 ≤ max }
     requires few { max ≤ 1000 }
 {
-    let newest = VersionIter::new(alloc, source.deep_copy(alloc)?, max)?;
+    let newest = version_iter(alloc, source.deep_copy(alloc)?, max)?;
     leaves(alloc, &newest, range, want)
 }
 
@@ -143,7 +143,7 @@ fn each_column_keeps_its_newest_versions(rt: HostRuntime) -> Result<(), KeyError
 
 /// Whether neither copies nor a seek of its own change what another one has left.
 fn stands_alone(alloc: Global, source: &VecSource) -> Result<bool, NoMemory> {
-    let mut newest = VersionIter::new(alloc, source.deep_copy(alloc)?, 1)?;
+    let mut newest = version_iter(alloc, source.deep_copy(alloc)?, 1)?;
     let is_new = newest.top().is_none();
     newest.seek(&range(Bound::At(last()), Bound::Open))?;
     let before_marker = range(Bound::Open, Bound::At(marker()));

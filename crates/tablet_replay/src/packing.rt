@@ -12,7 +12,7 @@ ghost use Rattle.tablet_replay.specs.Packing.{history_after, history_behind, is_
 use crate::history::History;
 use crate::scan::source_over;
 use cell_key::NoMemory;
-use delete_iter::LiveIter;
+use delete_iter::live_iter;
 use iter_config::{Config, IterSpec};
 use iter_stack::{Usage, compact};
 use script_text::{Line, LineError, Lines, parse_line};
@@ -90,7 +90,7 @@ fn packed(alloc: Global, config: &Config, history: &History) -> Result<SortedFil
     let entries = history.entries(alloc)?;
     let source = source_over(alloc, entries)?;
     if has_minor_alone(config) {
-        let live = LiveIter::new(alloc, source)?;
+        let live = live_iter(alloc, source)?;
         return compact(alloc, config, Usage::Minc, live);
     }
     compact(alloc, config, Usage::MajcFull, source)

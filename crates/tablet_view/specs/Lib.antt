@@ -3,7 +3,7 @@ pub mod Refusals
 pub mod Extending
 pub mod Sources
 pub mod ViewParts
-pub mod FamilyParts
+pub mod FamilyTests
 pub mod FileParts
 pub mod Ropes
 pub mod LogParts

@@ -2,7 +2,7 @@
 #![tactic(auto)]
 
 mod apply_error;
-mod family_iter;
+mod family_test;
 mod files;
 mod log;
 mod rope;

@@ -1,18 +1,19 @@
 //! A source of the entries of all parts of a view.
 #![tactic(auto, unfolding(crate::specs::Sources::source_cells, crate::specs::Sources::source_rest, crate::specs::Sources::source_valid))]
 
-use crate::family_iter::FamilyIter;
+use crate::family_test::FamilyTest;
 use cell_key::{EntryRef, Families, NoMemory, Range};
 use iter_contract::SortedSource;
 use iter_stack::PartCursor;
 use merge_iter::MergeIter;
+use stages::{Staged, Tested, filter_by};
 use std::alloc::Global;
 
 /// A source of the entries that a [`View`](crate::View) has in some families: those of all its parts, in one order. It is
 /// steady, and so are its deep copies.
 #[derive(Drop)]
 pub struct ViewSource {
-    source: FamilyIter<MergeIter<PartCursor>>,
+    source: Staged<MergeIter<PartCursor>, Tested<FamilyTest>>,
 }
 
 impl ViewSource {
@@ -32,7 +33,8 @@ impl ViewSource {
             (source_cells source) (source_rest source) true (source_valid source)) }
     {
         let merged = MergeIter::new(alloc, parts)?;
-        let source = FamilyIter::new(alloc, merged, families)?;
+        let test = FamilyTest::new(alloc, families)?;
+        let source = filter_by(merged, test);
         Ok(ViewSource { source })
     }
 }

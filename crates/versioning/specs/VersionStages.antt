@@ -1,33 +1,32 @@
--- What a stage says of what is left of its source. All of this is this project's own.
-use Rattle.std.specs.Prelude.{◌≡◌, ℕ, true, false, cond, List, []}
-use Rattle.tablet_model.specs.Cell.{Cell}
-use Rattle.versioning.specs.Tallies.{Tally, versions_from, is_settled}
-use Rattle.versioning.specs.declared.stage.VersionStage.{VersionStage}
-
--- where its pass has come to
-abbrev pub tally_in : VersionStage → Tally
-tally_in stage = record { column = stage.column; counted = stage.counted }
+-- What a stage counts and keeps. A version is an entry that is no marker. All of this is this project's own.
+use Rattle.std.specs.Prelude.{ℕ, ◌+◌, ◌||◌, ◌&&◌, not, Bool, cond, List, Some, nat_lt}
+use Rattle.tablet_model.specs.Cell.{Cell, Column, column_of}
+use Rattle.tablet_model.specs.Columns.{is_column}
+use Rattle.tablet_model.specs.Versions.{versions}
+use Rattle.versioning.specs.declared.version_stage.VersionStage.{VersionStage}
 
 -- the most versions of a column that it keeps
 abbrev pub most_in : VersionStage → ℕ
-most_in stage = stage.max
+most_in s = s.max
 
--- the entries that its pass keeps, where `rest` is left of the source
-abbrev pub kept_entries : VersionStage → List Cell → List Cell
-kept_entries stage rest = versions_from (most_in stage) (tally_in stage) rest
+-- what it makes of a list
+abbrev pub version_made : VersionStage → List Cell → List Cell
+version_made s = versions s.max
 
--- its pass keeps the first entry that is left of the source, or none is left
-abbrev pub IsSettled : VersionStage → List Cell → Type 0
-IsSettled stage rest = is_settled (most_in stage) (tally_in stage) rest ≡ true
+-- how many versions of a column were counted
+abbrev pub counted_of : VersionStage → Column → ℕ
+counted_of s d = cond (is_column s.column d) s.counted 0
 
--- the stage is new, or its last seek or step found no memory
-abbrev pub IsUnsought : VersionStage → Type 0
-IsUnsought stage = stage.is_sought ≡ false
+-- whether an entry is kept: a marker, or a version before which fewer than the most were counted
+abbrev pub keeps : VersionStage → Cell → Bool
+keeps s e = e.key.deleted || nat_lt (counted_of s (column_of e.key)) s.max
 
--- what it has left, where `rest` is left of the source
-abbrev pub version_left : VersionStage → List Cell → List Cell
-version_left stage rest = cond stage.is_sought (kept_entries stage rest) []
+-- behind an entry: a version that is kept is counted
+abbrev pub passed : VersionStage → Cell → VersionStage
+passed s e =
+    cond (not e.key.deleted && nat_lt (counted_of s (column_of e.key)) s.max)
+    (record s { column = Some (column_of e.key); counted = counted_of s (column_of e.key) + 1 }) s
 
--- where it was sought, it is settled
-abbrev pub VersionFits : VersionStage → List Cell → Type 0
-VersionFits stage rest = stage.is_sought ≡ true → IsSettled stage rest
+-- before a list
+abbrev pub uncounted : VersionStage → VersionStage
+uncounted s = record s { counted = 0 }

@@ -1,10 +1,8 @@
-// The newest versions of each column of a source: as a stage for a stack, and as an iterator of its own.
+// The newest versions of each column, as a stage, and as an iterator over any source.
 #![tactic(auto)]
 
-mod stage;
-mod version;
-mod version_iter;
+mod iter;
+mod version_stage;
 
-pub use stage::VersionStage;
-pub use version::{version_next, version_seek, version_top};
-pub use version_iter::VersionIter;
+pub use iter::{VersionIter, version_iter};
+pub use version_stage::VersionStage;

@@ -7,13 +7,13 @@ use Rattle.iter_config.specs.declared.iter_spec.Kind.{Kind}
 use Rattle.iter_stack.specs.LevelStages.{IsFresh}
 use Rattle.iter_stack.specs.Places.{kind_steady, KindTakes}
 use Rattle.iter_stack.specs.declared.stage.LevelStage.TheVariants as level
-use Rattle.iter_stack.proofs.Alike.{fresh_filter}
+use Rattle.iter_stack.proofs.Alike.{fresh_bottom, filters_alike}
 use Rattle.iter_stack.proofs.stage.LevelStage.of.Goals as goal
 
 pub returns-in_ok-predicate-in-Filter : goal.returns-in_ok-predicate-in-Filter
 returns-in_ok-predicate-in-Filter c =
-    subst (λ (k : Kind). IsFresh (stage (stage_of k)) (kind_steady k) (KindTakes k) (level.Filter c.new-in-Filter.result)) (sym c.in-Filter.is)
-    (fresh_filter c.in-Filter.predicate c.in-Filter.negate c.new-in-Filter.result (c.new-in-Filter.ensures.test ∙ ap (λ p. keeps p c.in-Filter.negate) (search rules)) c.new-in-Filter.ensures.unsought)
+    subst (λ (k : Kind). IsFresh (stage (stage_of k)) (kind_steady k) (KindTakes k) c.dropping.result) (sym c.in-Filter.is)
+    (fresh_bottom c.dropping.ensures (filters_alike c.in-Filter.predicate c.in-Filter.negate c.new-in-Filter.result (c.new-in-Filter.ensures ∙ ap (λ p. keeps p c.in-Filter.negate) (search rules))))
 
 pub returns-in-Combine : goal.returns-in-Combine
 unfolding stage

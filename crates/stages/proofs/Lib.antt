@@ -1,0 +1,3 @@
+pub mod Cursoring
+pub mod Plain
+pub mod Wrapped
