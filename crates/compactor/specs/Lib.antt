@@ -1,1 +1,4 @@
 pub mod Jobs
+pub mod FileValues
+pub mod PartCells
+pub mod Compacted

@@ -1,4 +1,4 @@
-// The stages over a source.
+//! The stages over a source.
 ghost use Rattle.std.specs.Prelude.{IfOk};
 ghost use Rattle.tablet_model.specs.Markers.{live, mark};
 ghost use Rattle.iter_contract.specs.Copies.{IsCopy};

@@ -1,4 +1,4 @@
-// What delete markers leave of a source: live and marked entries, as stages, and as iterators over any source.
+//! What delete markers leave of a source: live and marked entries, as stages, and as iterators over any source.
 #![tactic(auto)]
 
 mod iters;

@@ -1,3 +1,4 @@
+//! The stage of live entries.
 ghost use Rattle.std.specs.Prelude.{◌≡◌, true};
 
 use crate::mark_stage::MarkStage;

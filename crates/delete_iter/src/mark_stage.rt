@@ -1,3 +1,4 @@
+//! The stage of marked entries.
 ghost use Rattle.std.specs.Prelude.{◌≡◌, true};
 
 use cell_key::{ColumnBuf, EntryRef, NoMemory};

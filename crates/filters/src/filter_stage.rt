@@ -1,3 +1,4 @@
+//! The stage of a filter.
 ghost use Rattle.std.specs.Prelude.{◌≡◌};
 ghost use Rattle.std.specs.Arc.{arc_value};
 ghost use Rattle.filters.specs.FilterStages.{test_of};

@@ -1,3 +1,4 @@
+//! The iterator of a filter over any source.
 ghost use Rattle.std.specs.Arc.{arc_value};
 ghost use Rattle.tablet_model.specs.Filters.{filtered};
 ghost use Rattle.iter_config.specs.Predicates.{keeps};

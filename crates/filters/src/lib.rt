@@ -1,4 +1,4 @@
-// Filters: what passes a test of a configuration, as a stage, and as an iterator over any source.
+//! Filters: what passes a test of a configuration, as a stage, and as an iterator over any source.
 #![tactic(auto)]
 
 mod filter_stage;

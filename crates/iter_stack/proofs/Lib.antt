@@ -3,5 +3,3 @@ pub mod Steps
 pub mod Past
 pub mod Runs
 pub mod Taken
-pub mod Stored
-pub mod Written

@@ -6,6 +6,3 @@ pub mod LevelStages
 pub mod Levels
 pub mod Stacks
 pub mod Places
-pub mod PartCells
-pub mod FileValues
-pub mod Jobs

@@ -1,3 +1,4 @@
+//! Stacks by configuration and usage.
 ghost use Rattle.std.specs.Prelude.{IfOk};
 ghost use Rattle.tablet_model.specs.Reading.{AreUnmarkedRead};
 ghost use Rattle.iter_config.specs.Stages.{stages_of};

@@ -1,3 +1,4 @@
+//! The stages of a level that drop entries.
 ghost use Rattle.std.specs.Prelude.{◌≡◌};
 
 use cell_key::{EntryRef, NoMemory};

@@ -1,3 +1,4 @@
+//! Levels in fours.
 #![tactic(auto, unfolding(crate::specs::Fours::four_cells, crate::specs::Fours::four_rest, crate::specs::Fours::four_steady, crate::specs::Fours::four_valid))]
 
 use crate::level::Level;

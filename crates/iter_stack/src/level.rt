@@ -1,3 +1,4 @@
+//! One level of a stack.
 #![tactic(auto, unfolding(crate::specs::Levels::level_cells, crate::specs::Levels::level_rest, crate::specs::Levels::level_steady, crate::specs::Levels::level_valid))]
 
 ghost use Rattle.std.specs.Prelude.{◌<◌, length};

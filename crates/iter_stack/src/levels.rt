@@ -1,4 +1,4 @@
-// Levels for the iterators of a configuration.
+//! Levels for the iterators of a configuration.
 ghost use Rattle.std.specs.Prelude.{◌≡◌, ◌≤◌, [], IfOk, slice_get};
 ghost use Rattle.iter_contract.specs.Copies.{IsCopy};
 ghost use Rattle.iter_stack.specs.LevelStages.{IsFresh};

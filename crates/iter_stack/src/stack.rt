@@ -1,3 +1,4 @@
+//! The whole stack, as one source.
 #![tactic(auto, unfolding(crate::specs::Stacks::stack_cells, crate::specs::Stacks::stack_rest, crate::specs::Stacks::stack_steady, crate::specs::Stacks::stack_valid))]
 
 use crate::four::Four;

@@ -1,3 +1,4 @@
+//! What a level does.
 ghost use Rattle.std.specs.Prelude.{false, IfOk, if◌then◌else◌};
 ghost use Rattle.tablet_model.specs.Combines.{combined};
 ghost use Rattle.tablet_model.specs.Stages.{stage};

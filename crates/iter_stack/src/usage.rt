@@ -1,3 +1,4 @@
+//! What a stack is for.
 ghost use Rattle.std.specs.Prelude.{◌≡◌};
 ghost use Rattle.iter_config.specs.Rules.{is_full_combiner};
 

@@ -1,3 +1,4 @@
+//! Combiners.
 ghost use Rattle.std.specs.Prelude.{◌≡◌, ◌≢◌, IfOk};
 ghost use Rattle.std.specs.Arc.{arc_value};
 ghost use Rattle.iter_contract.specs.VecRest.{vec_cells};

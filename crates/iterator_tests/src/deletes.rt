@@ -1,3 +1,4 @@
+//! Live and marked entries.
 use crate::fixtures::{key, leaves, range, source};
 use cell_key::{Bound, KeyError, KeyRef, NoMemory, Range};
 use delete_iter::{live_iter, mark_iter};

@@ -1,3 +1,4 @@
+//! Filters.
 ghost use Rattle.std.specs.Prelude.{◌≤◌, length};
 
 use crate::fixtures::{leaves, range, source};

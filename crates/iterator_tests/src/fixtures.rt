@@ -1,3 +1,4 @@
+//! What the tests of this floor share.
 ghost use Rattle.std.specs.Prelude.{◌≡◌, [], map, codes, IfOk};
 ghost use Rattle.tablet_model.specs.Bounds.{KeyBounds};
 ghost use Rattle.tablet_model.specs.Order.{above};

@@ -1,4 +1,4 @@
-// Tests of the iterators over any source: delete markers, versions, filters and combiners.
+//! Tests of the iterators over any source: delete markers, versions, filters and combiners.
 #![tactic(auto)]
 
 #[cfg(test)]

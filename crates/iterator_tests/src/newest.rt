@@ -1,3 +1,4 @@
+//! Versions.
 ghost use Rattle.std.specs.Prelude.{◌≤◌};
 
 use crate::fixtures::{key, leaves, range, source};

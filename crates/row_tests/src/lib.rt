@@ -1,4 +1,4 @@
-// Tests of whole rows: their texts, and the iterator over any source.
+//! Tests of whole rows: their texts, and the iterator over any source.
 #![tactic(auto)]
 
 #[cfg(test)]

@@ -1,3 +1,4 @@
+//! Texts of rows.
 use crate::fixtures::listed;
 use cell_key::{ByteText, Entries, KeyError, NoMemory};
 use std::alloc::Global;

@@ -1,3 +1,4 @@
+//! The iterator over a source.
 ghost use Rattle.std.specs.Prelude.{IfOk};
 ghost use Rattle.whole_row.specs.RowLists.{AreLive};
 ghost use Rattle.iter_contract.specs.VecRest.{vec_cells};

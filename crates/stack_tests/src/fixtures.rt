@@ -4,10 +4,11 @@ ghost use Rattle.tablet_model.specs.Rules.{AreStorable, IsStorable};
 ghost use Rattle.cell_key.specs.Views.{cell_of};
 ghost use Rattle.iter_config.specs.RulesOf.{rules_of};
 
+use crate::walking::walk_to_end;
 use cell_key::{EntryRef, NoMemory};
+use compactor::ALL_KEYS;
 use iter_config::{Config, ConfigError, read_config};
 use iter_contract::SortedSource;
-use iter_stack::{ALL_KEYS, walk_to_end};
 use std::alloc::Global;
 
 const DOCUMENT: &[u8] = b"

@@ -5,13 +5,14 @@ ghost use Rattle.tablet_model.specs.Rules.{AreStorable};
 ghost use Rattle.cell_key.specs.Mutations.{row_change_of};
 ghost use Rattle.iter_config.specs.RulesOf.{rules_of};
 ghost use Rattle.merge_iter.specs.MergeParts.{merge_cells, merge_valid};
-ghost use Rattle.iter_stack.specs.PartCells.{part_cells, part_rest, union_of};
+ghost use Rattle.compactor.specs.PartCells.{part_cells, part_rest, union_of};
 
 use crate::fixtures::{Cell, are_storable, config, copy_has};
 use cell_key::{ByteText, Mutation, NoMemory, Update, Updates};
+use compactor::{DoneJob, Job, PartCursor};
 use iter_config::Config;
 use iter_contract::SortedSource;
-use iter_stack::{DoneJob, Job, PartCursor, Usage};
+use iter_stack::Usage;
 use memory_map::MemMap;
 use merge_iter::MergeIter;
 use sorted_file::SortedFile;

@@ -10,3 +10,5 @@ mod jobs;
 mod running;
 #[cfg(test)]
 mod stacks;
+#[cfg(test)]
+mod walking;

@@ -1,3 +1,4 @@
+//! Where a stage has come to.
 use crate::stage::Stage;
 use cell_key::NoMemory;
 use std::alloc::Global;

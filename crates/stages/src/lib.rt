@@ -1,5 +1,5 @@
-// Stages, which drop entries of a sorted source by what they met before them: the traits that anyone may implement, and
-// the one iterator over any stage and any source.
+//! Stages, which drop entries of a sorted source by what they met before them: the traits that anyone may implement, and
+//! the one iterator over any stage and any source.
 #![tactic(auto)]
 
 mod cursor;

@@ -1,3 +1,4 @@
+//! The trait of tests.
 ghost use Rattle.std.specs.Prelude.{◌≡◌, List, Bool, IfOk};
 ghost use Rattle.tablet_model.specs.Cell.{Cell};
 ghost use Rattle.cell_key.specs.Views.{cell_of};

@@ -1,3 +1,4 @@
+//! The stage of any test.
 ghost use Rattle.std.specs.Prelude.{filter};
 ghost use Rattle.iter_contract.specs.Copies.{IsCopy};
 ghost use Rattle.stages.specs.StagedParts.{staged_cells, staged_rest, staged_steady, staged_valid};

@@ -7,7 +7,7 @@ use crate::views::{scan_gives, source_has};
 use cell_key::{Families, FileIds, NoMemory};
 use compactor::JobState;
 use iter_config::ConfigError;
-use iter_stack::DoneJob;
+use compactor::DoneJob;
 use std::alloc::Global;
 use std::test::Fail;
 use tablet_core::{Answer, Core, Event, FileCount, StoreStatus};

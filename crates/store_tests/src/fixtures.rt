@@ -3,7 +3,7 @@ ghost use Rattle.std.specs.Prelude.{◌≡◌, ◌<◌, true, length};
 use cell_key::{ByteText, EntryRef, Mutation, NoMemory, Update, Updates};
 use iter_config::{Config, ConfigError, read_config};
 use iter_contract::SortedSource;
-use iter_stack::ALL_KEYS;
+use compactor::ALL_KEYS;
 use std::alloc::Global;
 use std::sync::Arc;
 

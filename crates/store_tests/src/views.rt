@@ -2,7 +2,7 @@ use crate::fixtures::{Cell, Change, config, has, has_left, mutation};
 use cell_key::{ByteText, Families, Names, NoMemory};
 use ingest::Refused;
 use iter_config::ConfigError;
-use iter_stack::ALL_KEYS;
+use compactor::ALL_KEYS;
 use scan_session::Session;
 use std::alloc::Global;
 use std::sync::Arc;

@@ -12,7 +12,7 @@ use Rattle.tablet_model.specs.Sum.{sum_all}
 use Rattle.stage_laws.proofs.Jobs.{found_job}
 use Rattle.stage_laws.proofs.JobsStay.{all_true}
 use Rattle.iter_config.specs.RulesOf.{rules_of}
-use Rattle.iter_stack.specs.Jobs.{Compaction, compacted}
+use Rattle.compactor.specs.Compacted.{Compaction, compacted}
 use Rattle.iter_stack.specs.Usages.{usage_cells}
 use Rattle.iter_stack.specs.declared.usage.Usage.TheVariants.{MajcFull, MajcPart}
 use Rattle.tablet_view.specs.Snapshot.{IsMajorOf, IsStanding, OthersAreNewer, replaced, store_of}

@@ -10,7 +10,7 @@ use Rattle.tablet_model.specs.Sum.{sum_all}
 use Rattle.tablet_model.proofs.Ingests.{none_cond}
 use Rattle.iter_config.specs.RulesOf.{rules_of}
 use Rattle.iter_config.specs.declared.iter_spec.IterSpec.{IterSpec}
-use Rattle.iter_stack.specs.Jobs.{Compaction, compacted}
+use Rattle.compactor.specs.Compacted.{Compaction, compacted}
 use Rattle.iter_stack.specs.Usages.{usage_cells}
 use Rattle.iter_stack.specs.declared.usage.Usage.TheVariants.{Minc}
 use Rattle.tablet_view.specs.Snapshot.{IsStanding, Snapshot, flushed, store_of}

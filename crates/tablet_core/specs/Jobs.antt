@@ -2,7 +2,7 @@
 use Rattle.std.specs.Prelude.{cond, List}
 use Rattle.tablet_model.specs.Cell.{Cell}
 use Rattle.tablet_model.specs.Store.{RunningJob, input_of}
-use Rattle.iter_stack.specs.Jobs.{Compaction}
+use Rattle.compactor.specs.Compacted.{Compaction}
 use Rattle.iter_stack.specs.declared.usage.Usage.TheVariants.{Minc, MajcPart, MajcFull}
 use Rattle.tablet_view.specs.Snapshot.{Snapshot}
 

@@ -21,10 +21,10 @@ use Rattle.iter_config.specs.Stages.{stages_of}
 use Rattle.iter_config.specs.declared.iter_spec.IterSpec.{IterSpec}
 use Rattle.iter_config.proofs.Prefixes.{filter_same}
 use Rattle.iter_config.proofs.Soundness.{sound}
-use Rattle.iter_stack.specs.FileValues.{HasShortValue}
+use Rattle.compactor.specs.FileValues.{HasShortValue}
 use Rattle.iter_stack.specs.Usages.{usage_cells}
 use Rattle.iter_stack.specs.declared.usage.Usage.TheVariants.{Minc, MajcFull}
-use Rattle.iter_stack.proofs.Stored.{short_value}
+use Rattle.compactor.proofs.Stored.{short_value}
 use Rattle.tablet_replay.specs.Packing.{is_minor_alone}
 
 -- ---- which iterators are those of compactions

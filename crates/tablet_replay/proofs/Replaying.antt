@@ -9,7 +9,7 @@ use Rattle.tablet_model.specs.Store.{File, RunningJob}
 use Rattle.compactor.specs.Jobs.{job_of}
 use Rattle.compactor.specs.declared.job_state.JobState.{JobState}
 use Rattle.scan_session.specs.Sessions.{SessionState, left_of}
-use Rattle.iter_stack.proofs.Written.{within_all}
+use Rattle.compactor.proofs.Written.{within_all}
 use Rattle.script_text.specs.Answers.{refusal_line}
 use Rattle.script_text.specs.SessionAnswers.{opened_line}
 use Rattle.script_text.specs.declared.line.Line.TheVariants as line

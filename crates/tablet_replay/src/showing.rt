@@ -9,7 +9,7 @@ use crate::outcome::ReplyError;
 use crate::scan::send_lines;
 use cell_key::ByteText;
 use iter_contract::SortedSource;
-use iter_stack::ALL_KEYS;
+use compactor::ALL_KEYS;
 use script_text::append_count;
 use sorted_file::SortedFile;
 use std::alloc::Global;

@@ -9,7 +9,7 @@ use Rattle.tablet_model.specs.Sorted.{sorted}
 use Rattle.tablet_model.specs.Store.{all_of, cells_of, frozen_of, parts_of}
 use Rattle.tablet_model.specs.Sum.{sum_all}
 use Rattle.iter_contract.specs.Several.{all_steady}
-use Rattle.iter_stack.specs.declared.part_cursor.PartCursor.{PartCursor}
+use Rattle.compactor.specs.declared.part_cursor.PartCursor.{PartCursor}
 use Rattle.tablet_view.specs.Snapshot.{Snapshot, entries_in, store_of}
 
 pub always_steady : (parts : List PartCursor) → all_steady (λ _. true) parts ≡ true

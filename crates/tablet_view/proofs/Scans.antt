@@ -20,7 +20,7 @@ use Rattle.iter_config.proofs.Prefixes.{scans_run_all}
 use Rattle.iter_config.proofs.Soundness.{sound}
 use Rattle.iter_stack.specs.Usages.{usage_cells}
 use Rattle.iter_stack.specs.declared.usage.Usage.TheVariants.{Scan}
-use Rattle.iter_stack.proofs.Stored.{storable_read}
+use Rattle.compactor.proofs.Stored.{storable_read}
 use Rattle.tablet_view.specs.Snapshot.{IsStanding, Snapshot, entries_in, store_of}
 use Rattle.tablet_view.proofs.Standing.{numbered_next}
 

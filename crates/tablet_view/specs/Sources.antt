@@ -7,7 +7,7 @@ use Rattle.tablet_model.specs.Bounds.{AreEntries, IsEntry}
 use Rattle.tablet_model.proofs.Orders.{above_exact}
 use Rattle.tablet_model.proofs.Sums.{Ascends-filter, all_filter}
 use Rattle.merge_iter.specs.MergeParts.{merge_bounded, merge_cells, merge_rest, merge_sorted, merge_valid}
-use Rattle.iter_stack.specs.PartCells.{part_bounded, part_cells, part_rest}
+use Rattle.compactor.specs.PartCells.{part_bounded, part_cells, part_rest}
 use Rattle.stages.specs.StagedParts.{staged_cells, staged_rest, staged_valid}
 use Rattle.stages.specs.TestedParts.{tested_made, tested_keeps, untouched}
 use Rattle.tablet_view.specs.FamilyTests.{family_passes}

@@ -2,11 +2,11 @@
 ghost use Rattle.std.specs.Prelude.{◌≡◌, ◌<◌, [], ◌∷◌, ◌++◌, Some, length, map, slice_get, IfOk};
 ghost use Rattle.std.specs.Arc.{arc_value};
 ghost use Rattle.tablet_model.specs.Store.{unnamed};
-ghost use Rattle.iter_stack.specs.PartCells.{part_cells};
+ghost use Rattle.compactor.specs.PartCells.{part_cells};
 ghost use Rattle.tablet_view.specs.FileParts.{file_of};
 
 use cell_key::{FileIds, NoMemory};
-use iter_stack::PartCursor;
+use compactor::PartCursor;
 use sorted_file::SortedFile;
 use std::alloc::Global;
 use std::marker::Model;

@@ -3,8 +3,8 @@
 
 use crate::family_test::FamilyTest;
 use cell_key::{EntryRef, Families, NoMemory, Range};
+use compactor::PartCursor;
 use iter_contract::SortedSource;
-use iter_stack::PartCursor;
 use merge_iter::MergeIter;
 use stages::{Staged, Tested, filter_by};
 use std::alloc::Global;
@@ -20,7 +20,7 @@ impl ViewSource {
     ghost use Rattle.std.specs.Prelude.{true, IfOk};
     ghost use Rattle.tablet_model.specs.Families.{in_families};
     ghost use Rattle.iter_contract.specs.Copies.{IsCopy};
-    ghost use Rattle.iter_stack.specs.PartCells.{union_of};
+    ghost use Rattle.compactor.specs.PartCells.{union_of};
     ghost use Rattle.tablet_view.specs.Sources.{source_cells, source_rest, source_valid};
 
     /// A source of the entries of some parts in some families.

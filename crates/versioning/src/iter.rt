@@ -1,3 +1,4 @@
+//! The iterator over any source.
 ghost use Rattle.std.specs.Prelude.{◌≤◌, IfOk};
 ghost use Rattle.tablet_model.specs.Versions.{versions};
 ghost use Rattle.iter_contract.specs.Copies.{IsCopy};

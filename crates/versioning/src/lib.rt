@@ -1,4 +1,4 @@
-// The newest versions of each column, as a stage, and as an iterator over any source.
+//! The newest versions of each column, as a stage, and as an iterator over any source.
 #![tactic(auto)]
 
 mod iter;

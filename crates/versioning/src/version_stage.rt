@@ -1,3 +1,4 @@
+//! The stage of the newest versions.
 ghost use Rattle.std.specs.Prelude.{◌≡◌, IfOk};
 ghost use Rattle.tablet_model.specs.Cell.{column_of};
 ghost use Rattle.cell_key.specs.Views.{key_of};

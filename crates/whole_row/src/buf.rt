@@ -1,3 +1,4 @@
+//! The text of a row, while it is put together.
 ghost use Rattle.std.specs.Prelude.{◌≡◌, ◌≤◌, ◌++◌, drop, length, IfOk, OnOk};
 ghost use Rattle.byteorder.specs.Endian.{big_bytes};
 ghost use Rattle.cell_key.specs.Views.{cell_of};

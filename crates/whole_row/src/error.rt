@@ -1,3 +1,4 @@
+//! Why bytes are no text of a row.
 use cell_key::NoMemory;
 use thiserror::Error;
 

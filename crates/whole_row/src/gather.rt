@@ -1,4 +1,4 @@
-// A pass over a source that makes each row one entry, without ends of a range.
+//! A pass over a source that makes each row one entry, without ends of a range.
 ghost use Rattle.std.specs.Prelude.{◌≡◌, ◌<◌, true, IsSome, IfOk, OnOk, None, [], length, option_map};
 ghost use Rattle.tablet_model.specs.Cuts.{is_behind};
 ghost use Rattle.tablet_model.specs.Sorted.{first, later, from_first};

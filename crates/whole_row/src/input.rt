@@ -1,3 +1,4 @@
+//! Fields read from the text of a row, with the place of each.
 ghost use Rattle.std.specs.Prelude.{◌+◌, ◌<◌, ◌^◌, length};
 
 use crate::error::RowError;

@@ -1,4 +1,4 @@
-// How the text of a row is read.
+//! How the text of a row is read.
 ghost use Rattle.std.specs.Prelude.{◌≡◌, ◌<◌, ◌≤◌, ◌^◌, IfOk, ℕ, List, Ok, None, length, option_map};
 ghost use Rattle.tablet_model.specs.Cell.{Cell};
 ghost use Rattle.cell_key.specs.Views.{cell_of, key_of};

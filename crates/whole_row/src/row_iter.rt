@@ -1,3 +1,4 @@
+//! The whole row iterator.
 use crate::stage::RowStage;
 use crate::steps::{row_next, row_seek, row_top};
 use cell_key::{EntryRef, NoMemory, Range};

@@ -1,3 +1,4 @@
+//! Where the iterator has come to.
 ghost use Rattle.std.specs.Prelude.{◌≡◌, false, IfOk};
 
 use crate::buf::RowBuf;

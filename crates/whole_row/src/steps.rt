@@ -1,3 +1,4 @@
+//! Seeks and steps over any source.
 ghost use Rattle.std.specs.Prelude.{◌≡◌, ◌<◌, [], is_ok, if◌then◌else◌, length, option_map};
 ghost use Rattle.tablet_model.specs.Cuts.{within, Everything};
 ghost use Rattle.tablet_model.specs.Sorted.{first, later};

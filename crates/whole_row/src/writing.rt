@@ -1,4 +1,4 @@
-// How the text of a row is written. Each function that appends may leave a part of it where memory is wanting.
+//! How the text of a row is written. Each function that appends may leave a part of it where memory is wanting.
 ghost use Rattle.std.specs.Prelude.{◌≡◌, ◌<◌, ◌≤◌, ◌++◌, ℕ, List, Ok, length, IfOk, OnOk};
 ghost use Rattle.std.specs.Int.{w64, cast_unsigned};
 ghost use Rattle.byteorder.specs.Endian.{big_bytes};

@@ -1,5 +1,5 @@
 use Rattle.std.proofs.Common.{◌≡◌, map, take}
-use Rattle.iter_stack.specs.PartCells.{part_cells}
+use Rattle.compactor.specs.PartCells.{part_cells}
 use Rattle.stack_tests.proofs.jobs.copies.Given as goal
 
 abbrev pub invariant-loop-part : goal.invariant-loop-part

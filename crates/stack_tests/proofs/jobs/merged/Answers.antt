@@ -1,7 +1,7 @@
 use Rattle.std.proofs.Common.{List, [], ◌∷◌}
 use Rattle.std.specs.Prelude.{⊤}
 use Rattle.std.specs.List.{AllByRecursion}
-use Rattle.iter_stack.specs.declared.part_cursor.PartCursor.{PartCursor}
+use Rattle.compactor.specs.declared.part_cursor.PartCursor.{PartCursor}
 use Rattle.stack_tests.proofs.jobs.merged.Goals as goal
 
 -- the parts of each cursor fit together

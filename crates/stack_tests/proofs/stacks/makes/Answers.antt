@@ -2,7 +2,7 @@ use Rattle.std.proofs.Common.{sym, subst}
 use Rattle.tablet_model.specs.Reading.{AreUnmarkedRead}
 use Rattle.iter_config.specs.Stages.{stages_of}
 use Rattle.iter_contract.specs.VecRest.{vec_cells}
-use Rattle.iter_stack.proofs.Stored.{storable_read}
+use Rattle.compactor.proofs.Stored.{storable_read}
 use Rattle.stack_tests.proofs.stacks.makes.Goals as goal
 
 pub build-requires-clause-read : goal.build-requires-clause-read

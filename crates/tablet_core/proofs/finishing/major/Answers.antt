@@ -2,7 +2,7 @@ use Rattle.std.proofs.Common.{◌≡◌, map, IfOk, sym, subst, ◌∙◌}
 use Rattle.std.specs.Arc.{arc_value}
 use Rattle.tablet_model.specs.Rules.{AreStorable}
 use Rattle.iter_config.specs.RulesOf.{rules_of}
-use Rattle.iter_stack.specs.PartCells.{part_cells, union_of}
+use Rattle.compactor.specs.PartCells.{part_cells, union_of}
 use Rattle.compactor.specs.Jobs.{job_of}
 use Rattle.tablet_view.proofs.Inputs.{files_storable}
 use Rattle.tablet_core.specs.Jobs.{major_of}

@@ -1,7 +1,7 @@
 use Rattle.std.proofs.Common.{◌≡◌, ◌++◌, ◌∷◌, [], true, false, map, Some, option_map, sym, ap, ◌∙◌, arith, append-nil}
 use Rattle.std.proofs.lemmas.List.{map-append}
 use Rattle.tablet_model.specs.Store.{has_id, named}
-use Rattle.iter_stack.specs.PartCells.{part_cells}
+use Rattle.compactor.specs.PartCells.{part_cells}
 use Rattle.tablet_core.proofs.FilesAt.{FileAt, file_at}
 use Rattle.tablet_core.proofs.Finishes.{parts_at}
 use Rattle.tablet_core.proofs.finishing.parts.Goals.{then-has+in_ok-file_cursor+in_ok-push, else-has}

@@ -1,6 +1,6 @@
 use Rattle.std.proofs.Common.{◌≡◌, map, take}
 use Rattle.tablet_model.specs.Store.{named}
-use Rattle.iter_stack.specs.PartCells.{part_cells}
+use Rattle.compactor.specs.PartCells.{part_cells}
 use Rattle.tablet_core.proofs.finishing.parts.Given as goal
 
 abbrev pub invariant-loop-i : goal.invariant-loop-i

@@ -7,10 +7,10 @@ use Rattle.tablet_model.specs.Reading.{AreUnmarkedRead}
 use Rattle.cell_key.specs.Mutations.{row_change_of}
 use Rattle.iter_config.specs.RulesOf.{rules_of}
 use Rattle.iter_config.specs.Stages.{stages_of}
-use Rattle.iter_stack.specs.FileValues.{HasShortValue}
+use Rattle.compactor.specs.FileValues.{HasShortValue}
 use Rattle.iter_stack.specs.Usages.{usage_cells}
 use Rattle.iter_stack.specs.declared.usage.Usage.TheVariants.{Minc, MajcFull}
-use Rattle.iter_stack.proofs.Stored.{storable_read}
+use Rattle.compactor.proofs.Stored.{storable_read}
 use Rattle.tablet_replay.proofs.Packs.{live_unmarked_read, major_packed, minor_packed, packed_short}
 use Rattle.tablet_replay.proofs.Histories.{storable_history}
 use Rattle.tablet_replay.proofs.packing.packed.Goals as goal

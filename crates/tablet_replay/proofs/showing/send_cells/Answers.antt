@@ -1,6 +1,6 @@
 use Rattle.std.proofs.Common.{◌++◌, subst, ◌∙◌}
 use Rattle.script_text.specs.Answers.{entry_lines}
-use Rattle.iter_stack.proofs.Written.{within_all}
+use Rattle.compactor.proofs.Written.{within_all}
 use Rattle.tablet_replay.specs.Replies.{Sends}
 use Rattle.tablet_replay.proofs.showing.send_cells.Goals as goal
 

@@ -1,5 +1,5 @@
 use Rattle.std.proofs.Common.{[], ◌++◌, ◌∷◌, ◌≡◌, ap, subst, ◌∙◌}
-use Rattle.iter_stack.specs.PartCells.{part_cells, union_of}
+use Rattle.compactor.specs.PartCells.{part_cells, union_of}
 use Rattle.std.specs.Arc.{arc_value}
 use Rattle.tablet_view.specs.Snapshot.{IsStanding}
 use Rattle.tablet_core.proofs.Flushes.{flush_is, flush_storable}

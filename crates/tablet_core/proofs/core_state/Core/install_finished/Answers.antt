@@ -3,7 +3,7 @@ use Rattle.std.specs.Arc.{arc_value}
 use Rattle.std.specs.List.{filter}
 use Rattle.tablet_model.specs.Steps as model
 use Rattle.tablet_model.specs.Steps.{find_job}
-use Rattle.iter_stack.specs.Jobs.{compacted}
+use Rattle.compactor.specs.Compacted.{compacted}
 use Rattle.tablet_view.specs.Snapshot.{replaced}
 use Rattle.tablet_core.specs.State.{Answers, CoreState, IsStandingCore}
 use Rattle.tablet_core.proofs.Finishes.{Found, finish_made, finish_nothing, finish_stands, finish_unmade, finished_core, made_in, none_found, some_found}

@@ -1,7 +1,7 @@
 use Rattle.std.proofs.Common.{Some, ap, length, subst, sym, ◌+◌, ◌≡◌, ◌∙◌}
 use Rattle.std.specs.Arc.{arc_value}
 use Rattle.tablet_model.specs.Steps as model
-use Rattle.iter_stack.specs.Jobs.{compacted}
+use Rattle.compactor.specs.Compacted.{compacted}
 use Rattle.tablet_core.specs.Said.{said}
 use Rattle.tablet_core.specs.State.{Answers, CoreState, IsStandingCore}
 use Rattle.tablet_core.proofs.Flushes.{flush_frozen, flush_made, flush_stands, flushed_core, made_of_frozen}

@@ -3,7 +3,7 @@ use Rattle.std.specs.Arc.{arc_value}
 use Rattle.tablet_model.specs.Stands.{AreBelow}
 use Rattle.tablet_model.specs.Steps.{find_job}
 use Rattle.tablet_model.specs.Store.{RunningJob}
-use Rattle.iter_stack.specs.Jobs.{compacted}
+use Rattle.compactor.specs.Compacted.{compacted}
 use Rattle.compactor.specs.Jobs.{job_of}
 use Rattle.tablet_view.specs.Snapshot.{IsMajorOf}
 use Rattle.tablet_core.specs.State.{IsStandingCore}

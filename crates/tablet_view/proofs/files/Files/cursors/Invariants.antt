@@ -1,6 +1,6 @@
 use Rattle.std.proofs.Common.{◌≡◌, map, take}
 use Rattle.std.specs.Arc.{arc_value}
-use Rattle.iter_stack.specs.PartCells.{part_cells}
+use Rattle.compactor.specs.PartCells.{part_cells}
 use Rattle.tablet_view.proofs.files.Files.cursors.Given as goal
 
 abbrev pub invariant-loop-stored : goal.invariant-loop-stored

@@ -1,6 +1,6 @@
 use Rattle.std.proofs.Common.{◌≡◌, rules, subst, sym, ap, ◌∙◌}
 use Rattle.tablet_model.specs.Store.{unnamed}
-use Rattle.iter_stack.specs.Jobs.{compacted}
+use Rattle.compactor.specs.Compacted.{compacted}
 use Rattle.tablet_view.specs.Snapshot.{IsStanding}
 use Rattle.tablet_view.proofs.OtherFiles.{none_named}
 use Rattle.tablet_view.proofs.Standing.{standing_flushed}

@@ -1,5 +1,5 @@
 use Rattle.std.proofs.Common.{rules, subst, sym}
-use Rattle.iter_stack.specs.Jobs.{compacted}
+use Rattle.compactor.specs.Compacted.{compacted}
 use Rattle.tablet_view.specs.Snapshot.{IsStanding}
 use Rattle.tablet_view.proofs.Standing.{standing_replaced}
 use Rattle.tablet_view.proofs.view.View.install_major.Goals as goal

@@ -1,7 +1,7 @@
 use Rattle.std.proofs.Common.{◌≡◌, ◌∷◌, ◌++◌, [], List, map, option_map, ap, ◌∙◌, sym, append-nil, append_assoc}
 use Rattle.std.specs.Arc.{arc_value}
 use Rattle.tablet_model.specs.Cell.{Cell}
-use Rattle.iter_stack.specs.PartCells.{part_cells}
+use Rattle.compactor.specs.PartCells.{part_cells}
 use Rattle.tablet_view.specs.Snapshot.{Snapshot}
 use Rattle.tablet_view.proofs.Parts.{all_parts, frozen_list}
 use Rattle.tablet_view.proofs.view.View.parts.Goals.{in-Some+in_ok-push_part, in_default}

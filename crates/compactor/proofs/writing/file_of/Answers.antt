@@ -2,9 +2,9 @@ use Rattle.std.proofs.Common.{◌≡◌, ◌++◌, IfOk, ap, sym, subst, ◌∙�
 use Rattle.std.specs.List.{AllByRecursion}
 use Rattle.tablet_model.specs.Order.{above}
 use Rattle.tablet_model.specs.Sorted.{Ascends}
-use Rattle.iter_stack.specs.FileValues.{HasShortValue}
-use Rattle.iter_stack.proofs.Written.{within_all}
-use Rattle.iter_stack.proofs.writing.file_of.Goals as goal
+use Rattle.compactor.specs.FileValues.{HasShortValue}
+use Rattle.compactor.proofs.Written.{within_all}
+use Rattle.compactor.proofs.writing.file_of.Goals as goal
 
 pub push_rest-requires-clause-order : goal.push_rest-requires-clause-order
 push_rest-requires-clause-order g c =

@@ -3,17 +3,17 @@ ghost use Rattle.std.specs.Arc.{arc_value};
 ghost use Rattle.tablet_model.specs.Rules.{AreStorable};
 ghost use Rattle.iter_config.specs.RulesOf.{rules_of};
 ghost use Rattle.merge_iter.specs.MergeParts.{merge_cells, merge_valid};
-ghost use Rattle.iter_stack.specs.PartCells.{part_cells, part_rest, union_of};
-ghost use Rattle.iter_stack.specs.Jobs.{compacted};
+ghost use Rattle.compactor.specs.PartCells.{part_cells, part_rest, union_of};
+ghost use Rattle.compactor.specs.Compacted.{compacted};
 ghost use Rattle.iter_stack.specs.Usages.{usage_cells};
 ghost use Rattle.iter_stack.specs.declared.usage.Usage.TheVariants.{Scan};
 
 use crate::part_cursor::PartCursor;
-use crate::usage::Usage;
 use crate::writing::compact;
 use cell_key::NoMemory;
 use iter_config::Config;
 use iter_contract::SortedSource;
+use iter_stack::Usage;
 use merge_iter::MergeIter;
 use sorted_file::SortedFile;
 use std::alloc::Global;
@@ -34,8 +34,8 @@ impl Model for Job {
     ghost use Rattle.std.specs.Arc.{arc_value};
     ghost use Rattle.tablet_model.specs.Rules.{AreStorable};
     ghost use Rattle.iter_config.specs.RulesOf.{rules_of};
-    ghost use Rattle.iter_stack.specs.PartCells.{union_of};
-    ghost use Rattle.iter_stack.specs.Jobs.{Compaction};
+    ghost use Rattle.compactor.specs.PartCells.{union_of};
+    ghost use Rattle.compactor.specs.Compacted.{Compaction};
     ghost use Rattle.iter_stack.specs.declared.usage.Usage.TheVariants.{Scan};
 
     ghost Value = { Compaction };
@@ -62,8 +62,8 @@ pub struct DoneJob {
 impl Model for DoneJob {
     ghost use Rattle.std.specs.Prelude.{◌≡◌};
     ghost use Rattle.std.specs.Arc.{arc_value};
-    ghost use Rattle.iter_stack.specs.PartCells.{union_of};
-    ghost use Rattle.iter_stack.specs.Jobs.{Compaction, compacted};
+    ghost use Rattle.compactor.specs.PartCells.{union_of};
+    ghost use Rattle.compactor.specs.Compacted.{Compaction, compacted};
 
     ghost Value = { Compaction };
 

@@ -1,8 +1,8 @@
 use Rattle.std.proofs.Common.{List, [], ◌∷◌}
 use Rattle.std.specs.Prelude.{⊤}
 use Rattle.std.specs.List.{AllByRecursion}
-use Rattle.iter_stack.specs.declared.part_cursor.PartCursor.{PartCursor}
-use Rattle.iter_stack.proofs.job.merged.Goals as goal
+use Rattle.compactor.specs.declared.part_cursor.PartCursor.{PartCursor}
+use Rattle.compactor.proofs.job.merged.Goals as goal
 
 -- the parts of each cursor fit together
 all_valid : (parts : List PartCursor) → AllByRecursion (λ _. ⊤) parts

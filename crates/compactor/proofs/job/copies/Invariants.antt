@@ -1,6 +1,6 @@
 use Rattle.std.proofs.Common.{◌≡◌, map, take}
-use Rattle.iter_stack.specs.PartCells.{part_cells}
-use Rattle.iter_stack.proofs.job.copies.Given as goal
+use Rattle.compactor.specs.PartCells.{part_cells}
+use Rattle.compactor.proofs.job.copies.Given as goal
 
 abbrev pub invariant-loop-part : goal.invariant-loop-part
 invariant-loop-part l = map part_cells l.copies.items ≡ map part_cells (take l.part-index l.parts)

@@ -7,8 +7,8 @@ use Rattle.tablet_model.specs.Bounds.{AreEntries}
 use Rattle.tablet_model.specs.Sum.{sum_all}
 use Rattle.memory_map.specs.CursorParts.{mem_cells, mem_rest, mem_sorted, mem_bounded}
 use Rattle.sorted_file.specs.CursorParts.{cursor_cells, cursor_rest}
-use Rattle.iter_stack.specs.declared.part_cursor.PartCursor.{PartCursor}
-use Rattle.iter_stack.specs.declared.part_cursor.PartCursor.TheVariants.{Memory, File}
+use Rattle.compactor.specs.declared.part_cursor.PartCursor.{PartCursor}
+use Rattle.compactor.specs.declared.part_cursor.PartCursor.TheVariants.{Memory, File}
 
 -- the part's entries
 abbrev pub part_cells : PartCursor → List Cell

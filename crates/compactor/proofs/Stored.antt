@@ -18,7 +18,7 @@ use Rattle.iter_config.specs.declared.iter_spec.IterSpec.{IterSpec}
 use Rattle.iter_config.specs.declared.iter_spec.Kind.{Kind}
 use Rattle.iter_config.specs.declared.iter_spec.Kind.TheVariants.{Filter, Versions, Combine}
 use Rattle.iter_config.proofs.Soundness.{sound}
-use Rattle.iter_stack.specs.FileValues.{HasShortValue}
+use Rattle.compactor.specs.FileValues.{HasShortValue}
 use Rattle.iter_stack.specs.Usages.{usage_cells}
 use Rattle.iter_stack.specs.declared.usage.Usage.{Usage}
 use Rattle.iter_stack.specs.declared.usage.Usage.TheVariants.{Scan, Minc, MajcPart, MajcFull}

@@ -5,14 +5,13 @@ ghost use Rattle.tablet_model.specs.Order.{above};
 ghost use Rattle.tablet_model.specs.Reading.{AreUnmarkedRead};
 ghost use Rattle.tablet_model.specs.Sorted.{Ascends};
 ghost use Rattle.iter_config.specs.Stages.{stages_of};
-ghost use Rattle.iter_stack.specs.FileValues.{HasShortValue};
+ghost use Rattle.compactor.specs.FileValues.{HasShortValue};
 ghost use Rattle.iter_stack.specs.Usages.{usage_cells};
 
-use crate::building::build;
-use crate::usage::Usage;
 use cell_key::{Bound, NoMemory, Range};
 use iter_config::Config;
 use iter_contract::SortedSource;
+use iter_stack::{Usage, build};
 use sorted_file::{FileBuilder, SortedFile};
 use std::alloc::Global;
 

@@ -1,7 +1,7 @@
 use Rattle.std.proofs.Common.{◌≡◌, ◌++◌, length}
 use Rattle.std.specs.List.{AllByRecursion}
-use Rattle.iter_stack.specs.FileValues.{HasShortValue}
-use Rattle.iter_stack.proofs.writing.push_rest.Given as goal
+use Rattle.compactor.specs.FileValues.{HasShortValue}
+use Rattle.compactor.proofs.writing.push_rest.Given as goal
 
 abbrev pub invariant-loop-entry : goal.invariant-loop-entry
 invariant-loop-entry g l =

@@ -2,11 +2,11 @@ use Rattle.std.proofs.Common.{sym, subst}
 use Rattle.std.specs.List.{AllByRecursion}
 use Rattle.tablet_model.specs.Reading.{AreUnmarkedRead}
 use Rattle.iter_config.specs.Stages.{stages_of}
-use Rattle.iter_stack.specs.FileValues.{HasShortValue}
-use Rattle.iter_stack.specs.PartCells.{union_of}
+use Rattle.compactor.specs.FileValues.{HasShortValue}
+use Rattle.compactor.specs.PartCells.{union_of}
 use Rattle.iter_stack.specs.Usages.{usage_cells}
-use Rattle.iter_stack.proofs.Stored.{storable_read, usage_short}
-use Rattle.iter_stack.proofs.job.compact_parts.Goals as goal
+use Rattle.compactor.proofs.Stored.{storable_read, usage_short}
+use Rattle.compactor.proofs.job.compact_parts.Goals as goal
 
 pub compact-requires-clause-read : goal.compact-requires-clause-read
 compact-requires-clause-read c =

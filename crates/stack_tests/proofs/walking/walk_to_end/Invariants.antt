@@ -1,5 +1,5 @@
 use Rattle.std.proofs.Common.{◌≡◌, length}
-use Rattle.iter_stack.proofs.walking.walk_to_end.Given as goal
+use Rattle.stack_tests.proofs.walking.walk_to_end.Given as goal
 
 abbrev pub invariant-loop-source : goal.invariant-loop-source
 invariant-loop-source g l =

@@ -2,8 +2,8 @@ use Rattle.std.proofs.Common.{ap, sym, subst, ◌∙◌, option_map}
 use Rattle.tablet_model.specs.Order.{above}
 use Rattle.tablet_model.specs.Sorted.{Ascends}
 use Rattle.cell_key.specs.Views.{cell_of}
-use Rattle.iter_stack.proofs.Written.{next_fits}
-use Rattle.iter_stack.proofs.writing.push_rest.Goals as goal
+use Rattle.compactor.proofs.Written.{next_fits}
+use Rattle.compactor.proofs.writing.push_rest.Goals as goal
 
 pub push-requires-clause-order : goal.push-requires-clause-order
 push-requires-clause-order g c =

@@ -15,7 +15,7 @@ pub enum PartCursor {
 
 impl SortedSource for PartCursor {
     ghost use Rattle.std.specs.Prelude.{true, ⊤};
-    ghost use Rattle.iter_stack.specs.PartCells.{part_cells, part_rest, part_sorted, part_bounded};
+    ghost use Rattle.compactor.specs.PartCells.{part_cells, part_rest, part_sorted, part_bounded};
 
     ghost cells = { part_cells };
 
