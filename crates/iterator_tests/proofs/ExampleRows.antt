@@ -14,7 +14,7 @@ use Rattle.number_values.specs.Arrays.{array_reduction, spells_array}
 use Rattle.cell_key.specs.declared.column_name.ColumnName.{ColumnName}
 use Rattle.combiners.specs.Gathers.{AreRead}
 use Rattle.cell_key.specs.Listed.{column_listed}
-use Rattle.iterator_tests.specs.Examples.{example_names, example_cells, example_arrays, AreNumbers, AreArrays}
+use Rattle.iterator_tests.specs.Examples.{example_names, example_cells, example_arrays, example_flags, AreNumbers, AreArrays}
 
 pub example_sorted : sorted above example_cells ≡ example_cells
 unfolding sorted put above cell_cmp key_cmp time_cmp column_cmp
@@ -57,3 +57,12 @@ arrays_read names own r all cells n e a h = subst (λ f. AreRead f r all) (sym n
 -- no marker stays in front by equal names and in equal entries
 pub front_read : (names : List ColumnName) (all cells : List Cell) → names ≡ example_names → all ≡ cells → AreInFront (column_listed example_names) [] cells → AreInFront (column_listed names) [] all
 front_read names all cells n a h = subst (λ f. AreInFront (column_listed f) [] all) (sym n) (subst (λ l. AreInFront (column_listed example_names) [] l) (sym a) h)
+
+-- entries of flags
+pub flags_sorted : sorted above example_flags ≡ example_flags
+unfolding sorted put above cell_cmp key_cmp time_cmp column_cmp
+flags_sorted = refl
+
+pub flags_front : AreInFront (column_listed example_names) [] example_flags
+unfolding AreInFront marker_beside same_column column_cmp
+flags_front = ((λ d l. refl), ((λ d l. refl), ((λ d l. refl), ((λ d l. refl), tt))))

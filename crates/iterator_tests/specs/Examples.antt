@@ -52,3 +52,12 @@ example_arrays =
 -- the values in the listed columns are decimal arrays
 unfoldable pub AreArrays : List ColumnName → List Cell → Type 0
 AreArrays names cells = AreRead names (array_reduction encoding.String) cells
+
+-- entries of two columns, in order
+abbrev pub example_flags : List Cell
+example_flags =
+    example (codes "1") (codes "s") (codes "x") (pos 9) false (codes "0")
+    ∷ example (codes "1") (codes "s") (codes "x") (pos 7) false (codes "1")
+    ∷ example (codes "1") (codes "s") (codes "x") (pos 5) false (codes "0")
+    ∷ example (codes "2") (codes "s") (codes "x") (pos 3) false (codes "0")
+    ∷ []

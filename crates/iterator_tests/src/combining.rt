@@ -2,13 +2,14 @@
 ghost use Rattle.std.specs.Prelude.{◌≡◌, ◌≢◌, IfOk};
 ghost use Rattle.std.specs.Arc.{arc_value};
 ghost use Rattle.iter_contract.specs.VecRest.{vec_cells};
-ghost use Rattle.iterator_tests.specs.Examples.{example_names, example_cells, example_arrays, AreNumbers};
+ghost use Rattle.iterator_tests.specs.Examples.{example_names, example_cells, example_arrays, example_flags, AreNumbers};
 
 use crate::fixtures::{key, leaves, range, source};
 use cell_key::{Bound, ByteText, ColumnName, Columns, KeyError, KeyRef, NoMemory, Range};
 use combiners::{ArrayReducer, CombineIter, LongReducer};
 use iter_contract::{SortedSource, VecSource};
 use number_values::{Encoding, Op};
+use own_iterators::AnyFlag;
 use std::alloc::Global;
 use std::sync::Arc;
 
@@ -73,6 +74,21 @@ fn arrays(alloc: Global) -> Result<VecSource, KeyError>
     )
 }
 
+/// Entries of two columns, whose values are flags.
+fn flags(alloc: Global) -> Result<VecSource, KeyError>
+    ensures { IfOk result (λ source. vec_cells source ≡ example_flags) }
+{
+    source(
+        alloc,
+        &[
+            (b"1", b"s", b"x", b"", 9, false, b"0"),
+            (b"1", b"s", b"x", b"", 7, false, b"1"),
+            (b"1", b"s", b"x", b"", 5, false, b"0"),
+            (b"2", b"s", b"x", b"", 3, false, b"0"),
+        ],
+    )
+}
+
 /// Whether these are left in a range of the numbers where an operation joins them.
 fn joins(
     alloc: Global,
@@ -104,6 +120,21 @@ fn adds(alloc: Global, source: VecSource, want: &[u8]) -> Result<bool, NoMemory>
 #[test]
 fn arrays_are_added(rt: HostRuntime) -> Result<(), KeyError> {
     assert!(rt; adds(rt.alloc(), arrays(rt.alloc())?, b"1sx9=5,6,5,7 ")?);
+    Ok(())
+}
+
+/// Whether these are left of flags that a reducer of a user's own joins.
+fn any_is_set(alloc: Global, source: VecSource, want: &[u8]) -> Result<bool, NoMemory>
+    requires { vec_cells source ≡ example_flags }
+{
+    let columns = shared_columns(alloc)?;
+    let joined = CombineIter::new(alloc, source, columns, AnyFlag::new())?;
+    leaves(alloc, &joined, &range(Bound::Open, Bound::Open), want)
+}
+
+#[test]
+fn flags_are_joined(rt: HostRuntime) -> Result<(), KeyError> {
+    assert!(rt; any_is_set(rt.alloc(), flags(rt.alloc())?, b"1sx9=1 2sx3=0 ")?);
     Ok(())
 }
 

@@ -6,6 +6,8 @@ use cell_key::{Bound, ByteText, KeyError, Names, NoMemory};
 use filters::filter_iter;
 use iter_config::Predicate;
 use iter_contract::{SortedSource, VecSource};
+use own_iterators::SmallValues;
+use stages::filter_by;
 use std::alloc::Global;
 use std::sync::Arc;
 
@@ -197,5 +199,23 @@ fn times_have_both_ends(rt: HostRuntime) -> Result<(), KeyError> {
             "{i}"
         );
     }
+    Ok(())
+}
+
+/// Whether a filter of a user's own keeps these.
+fn keeps_small(
+    alloc: Global,
+    source: &VecSource,
+    most: usize,
+    want: &[u8],
+) -> Result<bool, NoMemory> {
+    let small = filter_by(source.deep_copy(alloc)?, SmallValues::new(most));
+    leaves(alloc, &small, &range(Bound::Open, Bound::Open), want)
+}
+
+#[test]
+fn small_values_are_kept(rt: HostRuntime) -> Result<(), KeyError> {
+    let source = entries(rt.alloc())?;
+    assert!(rt; keeps_small(rt.alloc(), &source, 2, b"cgcw3=ca dcat-4= ehzw9! ")?);
     Ok(())
 }
