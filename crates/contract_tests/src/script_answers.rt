@@ -1,11 +1,12 @@
 use cell_key::{ByteText, EntryRef, FileIds, KeyRef, NoMemory, Part};
+use ingest::Refused;
 use script_text::{
-    Refusal, append_accepted, append_at, append_closed, append_count, append_dropped, append_end,
-    append_entry, append_file, append_finished, append_flushed, append_freeze, append_frozen,
-    append_job, append_log, append_memory, append_opened, append_refusal, append_renewed,
-    append_rest, append_started, entry_text, refusal_text,
+    append_at, append_closed, append_count, append_dropped, append_end, append_entry, append_file,
+    append_frozen, append_job, append_log, append_memory, append_opened, append_renewed,
+    append_rest, entry_text,
 };
 use std::alloc::Global;
+use tablet_steps::{Answer, LineRefusal, StepRefusal};
 
 fn live() -> EntryRef<'static> {
     let key = KeyRef {
@@ -43,79 +44,153 @@ fn an_entry_is_written(rt: HostRuntime) -> Result<(), NoMemory> {
     Ok(())
 }
 
-fn append_answers(alloc: Global, text: &mut ByteText) -> Result<(), NoMemory> {
-    append_accepted(alloc, text, 1)?;
+fn append_lines(alloc: Global, text: &mut ByteText) -> Result<(), NoMemory> {
     append_at(alloc, text, u64::MAX)?;
     append_entry(alloc, text, marker())?;
     append_end(alloc, text, 0)?;
-    append_count(alloc, text, 12)?;
-    append_refusal(alloc, text, &Refusal::Bound(Part::Row))
+    append_count(alloc, text, 12)
 }
 
 #[test]
-fn answers_are_written(rt: HostRuntime) -> Result<(), NoMemory> {
+fn lines_are_written(rt: HostRuntime) -> Result<(), NoMemory> {
     let mut text = ByteText::new(rt.alloc());
-    append_answers(rt.alloc(), &mut text)?;
-    let want =
-        b"m 1\nat 18446744073709551615\nr2 :: @-9223372036854775808 -\nend 0\nentries 12\nno bound row\n";
+    append_lines(rt.alloc(), &mut text)?;
+    let want = b"at 18446744073709551615\nr2 :: @-9223372036854775808 -\nend 0\nentries 12\n";
     assert!(rt; text.bytes() == want.as_slice());
     Ok(())
 }
 
-fn is_refusal(alloc: Global, refusal: &Refusal, want: &str) -> Result<bool, NoMemory> {
-    let text = refusal_text(alloc, refusal)?;
+fn is_answer(alloc: Global, answer: &Answer, want: &str) -> Result<bool, NoMemory> {
+    let mut text = ByteText::new(alloc);
+    answer.append(alloc, &mut text)?;
     Ok(text.bytes() == want.as_bytes())
 }
 
-/// Refusals and their lines.
-const REFUSALS: [(Refusal, &str); 24] = [
-    (Refusal::Syntax, "no syntax\n"),
-    (Refusal::Bound(Part::Row), "no bound row\n"),
-    (Refusal::Bound(Part::Updates), "no bound updates\n"),
-    (Refusal::Bound(Part::Family), "no bound family\n"),
-    (Refusal::Bound(Part::Qualifier), "no bound qualifier\n"),
-    (Refusal::Bound(Part::Visibility), "no bound visibility\n"),
-    (Refusal::Bound(Part::Value), "no bound value\n"),
-    (Refusal::Duplicate, "no duplicate\n"),
-    (Refusal::DeleteHere, "no delete\n"),
-    (Refusal::Time, "no time\n"),
-    (Refusal::Value, "no value\n"),
-    (Refusal::Full, "no full\n"),
-    (Refusal::NothingInMemory, "no empty\n"),
-    (Refusal::FrozenThere, "no frozen-there\n"),
-    (Refusal::NothingFrozen, "no not-frozen\n"),
-    (Refusal::TooManyFiles, "no too-many-files\n"),
-    (Refusal::JobExists(1), "no job-exists j1\n"),
-    (Refusal::NoFiles, "no files\n"),
-    (Refusal::NoSuchFile(7), "no file f7\n"),
-    (Refusal::InJob { file: 1, job: 2 }, "no in-job f1 j2\n"),
-    (Refusal::NoSuchJob(9), "no job j9\n"),
-    (Refusal::SessionOpen(64), "no session-open s64\n"),
-    (Refusal::NoSession(3), "no session s3\n"),
-    (Refusal::Live, "no live\n"),
+/// Answers to steps and their lines.
+const ANSWERS: [(Answer, &str); 15] = [
+    (Answer::Applied(1), "m 1\n"),
+    (Answer::Frozen(2), "freeze 2\n"),
+    (Answer::Flushed { file: 1, count: 3 }, "flushed f1 3\n"),
+    (
+        Answer::Started {
+            job: 4,
+            full: false,
+        },
+        "compact j4 part\n",
+    ),
+    (Answer::Started { job: 5, full: true }, "compact j5 full\n"),
+    (
+        Answer::Finished {
+            job: 4,
+            file: 2,
+            count: 6,
+        },
+        "finish j4 f2 6\n",
+    ),
+    (Answer::Refused(StepRefusal::NothingInMemory), "no empty\n"),
+    (
+        Answer::Refused(StepRefusal::FrozenThere),
+        "no frozen-there\n",
+    ),
+    (
+        Answer::Refused(StepRefusal::NothingFrozen),
+        "no not-frozen\n",
+    ),
+    (
+        Answer::Refused(StepRefusal::TooManyFiles),
+        "no too-many-files\n",
+    ),
+    (
+        Answer::Refused(StepRefusal::JobExists(1)),
+        "no job-exists j1\n",
+    ),
+    (Answer::Refused(StepRefusal::NoFiles), "no files\n"),
+    (Answer::Refused(StepRefusal::NoSuchFile(7)), "no file f7\n"),
+    (
+        Answer::Refused(StepRefusal::InJob { file: 1, job: 2 }),
+        "no in-job f1 j2\n",
+    ),
+    (Answer::Refused(StepRefusal::NoSuchJob(9)), "no job j9\n"),
 ];
 
 #[test]
-fn refusals_are_written(rt: HostRuntime) -> Result<(), NoMemory> {
-    for (i, (refusal, want)) in REFUSALS.iter().enumerate() {
-        assert!(rt; is_refusal(rt.alloc(), refusal, want)?, "{i}");
+fn answers_are_written(rt: HostRuntime) -> Result<(), NoMemory> {
+    for (i, (answer, want)) in ANSWERS.iter().enumerate() {
+        assert!(rt; is_answer(rt.alloc(), answer, want)?, "{i}");
     }
     Ok(())
 }
 
-fn append_steps(alloc: Global, text: &mut ByteText) -> Result<(), NoMemory> {
-    append_freeze(alloc, text, 2)?;
-    append_flushed(alloc, text, 1, 3)?;
-    append_started(alloc, text, 4, false)?;
-    append_started(alloc, text, 5, true)?;
-    append_finished(alloc, text, 4, 2, 6)
+/// Refusals of mutations and their lines.
+const REFUSED: [(Refused, &str); 10] = [
+    (
+        Refused::Bound {
+            at: 0,
+            part: Part::Row,
+        },
+        "no bound row\n",
+    ),
+    (
+        Refused::Bound {
+            at: 0,
+            part: Part::Updates,
+        },
+        "no bound updates\n",
+    ),
+    (
+        Refused::Bound {
+            at: 7,
+            part: Part::Family,
+        },
+        "no bound family\n",
+    ),
+    (
+        Refused::Bound {
+            at: 7,
+            part: Part::Qualifier,
+        },
+        "no bound qualifier\n",
+    ),
+    (
+        Refused::Bound {
+            at: 7,
+            part: Part::Visibility,
+        },
+        "no bound visibility\n",
+    ),
+    (
+        Refused::Bound {
+            at: 7,
+            part: Part::Value,
+        },
+        "no bound value\n",
+    ),
+    (Refused::Duplicate { at: 2 }, "no duplicate\n"),
+    (Refused::DeleteHere { at: 1 }, "no delete\n"),
+    (Refused::Value { at: 1 }, "no value\n"),
+    (Refused::Full, "no full\n"),
+];
+
+#[test]
+fn refused_mutations_are_written(rt: HostRuntime) -> Result<(), NoMemory> {
+    for (i, (refused, want)) in REFUSED.iter().enumerate() {
+        let answer = Answer::Refused(StepRefusal::Mutation(*refused));
+        assert!(rt; is_answer(rt.alloc(), &answer, want)?, "{i}");
+    }
+    Ok(())
+}
+
+fn append_refusals(alloc: Global, text: &mut ByteText) -> Result<(), NoMemory> {
+    LineRefusal::Syntax.append(alloc, text)?;
+    LineRefusal::SessionOpen(64).append(alloc, text)?;
+    LineRefusal::NoSession(3).append(alloc, text)
 }
 
 #[test]
-fn steps_are_written(rt: HostRuntime) -> Result<(), NoMemory> {
+fn refusals_are_written(rt: HostRuntime) -> Result<(), NoMemory> {
     let mut text = ByteText::new(rt.alloc());
-    append_steps(rt.alloc(), &mut text)?;
-    let want = b"freeze 2\nflushed f1 3\ncompact j4 part\ncompact j5 full\nfinish j4 f2 6\n";
+    append_refusals(rt.alloc(), &mut text)?;
+    let want = b"no syntax\nno session-open s64\nno session s3\n";
     assert!(rt; text.bytes() == want.as_slice());
     Ok(())
 }

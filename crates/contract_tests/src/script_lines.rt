@@ -1,6 +1,7 @@
 use cell_key::{Mutation, Update};
-use script_text::{Line, LineError, Lines, parse_line, split_input};
+use script_text::{Line, LineError, Lines, SessionStep, parse_line, split_input};
 use std::alloc::Global;
+use tablet_steps::Event;
 
 /// The word for a line that is no mutation.
 fn word_of(line: &Line) -> &'static str {
@@ -8,8 +9,11 @@ fn word_of(line: &Line) -> &'static str {
         Line::Nothing => "nothing",
         Line::Scan { families, .. } if families.has(b"b") => "scan",
         Line::Scan { .. } => "scan without b",
-        Line::Open { isolated: true, .. } => "open isolated",
-        Line::Compact { files, .. } if files.len() == 2 => "compact two",
+        Line::Session {
+            step: SessionStep::Open { isolated: true, .. },
+            ..
+        } => "open isolated",
+        Line::Step(Event::Compact { files, .. }) if files.len() == 2 => "compact two",
         _ => "other",
     }
 }
@@ -76,7 +80,7 @@ fn is_mutation(mutation: &Mutation, row: &[u8], changes: &[Change<'_>]) -> bool 
 /// Whether a line is read as the mutation of this row and these changes.
 fn mutates(alloc: Global, line: &[u8], row: &[u8], changes: &[Change<'_>]) -> bool {
     match parse_line(alloc, line) {
-        Ok(Line::Mutate(mutation)) => is_mutation(&mutation, row, changes),
+        Ok(Line::Step(Event::Apply(mutation))) => is_mutation(&mutation, row, changes),
         _ => false,
     }
 }

@@ -3,17 +3,20 @@ use Rattle.std.proofs.Common.{◌≡◌, ℕ, ◌≤◌, ◌&&◌, Bool, true, f
 use Rattle.std.specs.Prelude.{if◌then◌else◌, option_map, codes}
 use Rattle.std.specs.Str.{bytes_eq}
 use Rattle.std.proofs.lemmas.Bool.Decides.{nat_tests}
-use Rattle.script_text.specs.Grammar.{compact_of, ended, fetch_of, is_comment, isolated_of, line_of, mutation_of, only_job, only_session, only_word, open_of, reading_of, scan_of, session_line_of, store_line_of, updates_of, files_onto}
+use Rattle.script_text.specs.Grammar.{compact_of, ended, fetch_of, is_comment, isolated_of, line_by_word, line_of, mutation_of, only_job, only_word, open_of, reading_of, scan_of, session_step_of, updates_of, files_onto}
 use Rattle.script_text.specs.Numbers.{job_of, number_of, number_to, session_of}
 use Rattle.script_text.specs.Reading.{◌>>=◌}
 use Rattle.script_text.specs.Scans.{behind_families, behind_range, families_in, families_text, range_in, range_word}
 use Rattle.script_text.specs.Words.{text_of, words_of}
 use Rattle.script_text.specs.declared.line.Line.{Line}
-use Rattle.script_text.specs.declared.line.Line.TheVariants.{Scan, Fetch, Renew, Drop, Close, Freeze, Flushed, Status, CompactAll, Finish}
+use Rattle.script_text.specs.declared.line.Line.TheVariants.{Step, Scan, Session, Status}
+use Rattle.script_text.specs.declared.line.SessionStep.{SessionStep}
+use Rattle.script_text.specs.declared.line.SessionStep.TheVariants.{Fetch, Renew, Drop, Close}
+use Rattle.tablet_steps.specs.declared.event.Event.TheVariants.{Freeze, Flush, CompactAll, Finish}
 
 -- a fetch is of one entry at least
 abbrev IsCounted : Line → Type 0
-IsCounted (Fetch session count) = 1 ≤ count
+IsCounted (Session session (Fetch count)) = 1 ≤ count
 IsCounted _ = Unit {0}
 
 abbrev AllCounted : Option Line → Type 0
@@ -71,40 +74,38 @@ fetch_counted : (words : List (List ℕ)) → AllCounted (fetch_of words)
 unfolding fetch_of
 fetch_counted [] = tt
 fetch_counted (word ∷ words) =
-    bound (session_of word) _ (λ session. bound (only_word words) _ (λ last. number_counted 1000000 last (Fetch session) (λ n h. h)))
+    bound (session_of word) _ (λ session. bound (only_word words) _ (λ last. number_counted 1000000 last (λ count. Session session (Fetch count)) (λ n h. h)))
 
 compact_counted : (words : List (List ℕ)) → AllCounted (compact_of words)
 unfolding compact_of
 compact_counted [] = tt
 compact_counted (word ∷ words) = bound (job_of word) _ (λ job. bound (files_onto [] words) _ (λ ids. tt))
 
-store_counted : (word : List ℕ) (words : List (List ℕ)) → AllCounted (store_line_of word words)
-unfolding store_line_of
-store_counted word words =
-    chosen (bytes_eq word (codes "freeze")) _ _ (at_end words (Some Freeze) tt)
-    (chosen (bytes_eq word (codes "flushed")) _ _ (at_end words (Some Flushed) tt)
-    (chosen (bytes_eq word (codes "status")) _ _ (at_end words (Some Status) tt)
-    (chosen (bytes_eq word (codes "compact")) _ _ (compact_counted words)
-    (chosen (bytes_eq word (codes "compactall")) _ _ (mapped CompactAll (λ job. tt) (only_job words))
-    (chosen (bytes_eq word (codes "finish")) _ _ (mapped Finish (λ job. tt) (only_job words)) tt)))))
+session_step_counted : (step : SessionStep) → ((session : ℕ) → IsCounted (Session session step)) → (words : List (List ℕ)) → AllCounted (session_step_of step words)
+session_step_counted step h words = bound (only_word words) _ (λ word. bound (session_of word) _ h)
 
-session_counted : (word : List ℕ) (words : List (List ℕ)) → AllCounted (session_line_of word words)
-unfolding session_line_of
-session_counted word words =
-    chosen (bytes_eq word (codes "open")) _ _ (open_counted words)
+word_counted : (word : List ℕ) (words : List (List ℕ)) → AllCounted (line_by_word word words)
+unfolding line_by_word
+word_counted word words =
+    chosen (bytes_eq word (codes "m")) _ _ (mutation_counted words)
+    (chosen (bytes_eq word (codes "scan")) _ _ (scan_counted words)
+    (chosen (bytes_eq word (codes "open")) _ _ (open_counted words)
     (chosen (bytes_eq word (codes "fetch")) _ _ (fetch_counted words)
-    (chosen (bytes_eq word (codes "renew")) _ _ (mapped Renew (λ s. tt) (only_session words))
-    (chosen (bytes_eq word (codes "drop")) _ _ (mapped Drop (λ s. tt) (only_session words))
-    (chosen (bytes_eq word (codes "close")) _ _ (mapped Close (λ s. tt) (only_session words)) (store_counted word words)))))
+    (chosen (bytes_eq word (codes "renew")) _ _ (session_step_counted Renew (λ s. tt) words)
+    (chosen (bytes_eq word (codes "drop")) _ _ (session_step_counted Drop (λ s. tt) words)
+    (chosen (bytes_eq word (codes "close")) _ _ (session_step_counted Close (λ s. tt) words)
+    (chosen (bytes_eq word (codes "freeze")) _ _ (at_end words (Some (Step Freeze)) tt)
+    (chosen (bytes_eq word (codes "flushed")) _ _ (at_end words (Some (Step Flush)) tt)
+    (chosen (bytes_eq word (codes "compact")) _ _ (compact_counted words)
+    (chosen (bytes_eq word (codes "compactall")) _ _ (mapped (λ job. Step (CompactAll job)) (λ job. tt) (only_job words))
+    (chosen (bytes_eq word (codes "finish")) _ _ (mapped (λ job. Step (Finish job)) (λ job. tt) (only_job words))
+    (chosen (bytes_eq word (codes "status")) _ _ (at_end words (Some Status) tt) tt))))))))))))
 
 reading_counted : (words : List (List ℕ)) → AllCounted (reading_of words)
 unfolding reading_of
 reading_counted [] = tt
-reading_counted (word ∷ words) =
-    chosen (is_comment word) _ _ tt
-    (chosen (bytes_eq word (codes "m")) _ _ (mutation_counted words)
-    (chosen (bytes_eq word (codes "scan")) _ _ (scan_counted words) (session_counted word words)))
+reading_counted (word ∷ words) = chosen (is_comment word) _ _ tt (word_counted word words)
 
 -- a fetch is read with a count of 1 at least
-pub fetch_asks : (line : List ℕ) (session count : ℕ) → line_of line ≡ Some (Fetch session count) → 1 ≤ count
+pub fetch_asks : (line : List ℕ) (session count : ℕ) → line_of line ≡ Some (Session session (Fetch count)) → 1 ≤ count
 fetch_asks line session count h = subst AllCounted h (reading_counted (words_of line))

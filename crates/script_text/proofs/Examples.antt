@@ -2,18 +2,18 @@
 use Rattle.std.proofs.Common.{◌≡◌, ℕ, ℤ, pos, negsuc, Bool, true, false, List, [], ◌∷◌, Option, Some, None, codes, map, refl}
 use Rattle.std.specs.Fmt.{digits}
 use Rattle.tablet_model.specs.Cell.{Cell}
-use Rattle.cell_key.specs.declared.key.Part.TheVariants.{Updates}
 use Rattle.cell_key.specs.declared.mutation.Update.{Update}
-use Rattle.script_text.specs.Answers.{accepted_line, entry_line, refusal_line, scan_text, found_text}
-use Rattle.script_text.specs.Grammar.{compact_of, delete_of, fetch_of, line_of, mutation_of, open_of, put_of, reading_of, scan_of, session_line_of, store_line_of, update_of}
+use Rattle.script_text.specs.Answers.{entry_line, scan_text, found_text}
+use Rattle.script_text.specs.Grammar.{compact_of, delete_of, fetch_of, line_of, mutation_of, open_of, put_of, line_by_word, reading_of, scan_of, update_of}
 use Rattle.script_text.specs.Numbers.{number_of}
 use Rattle.script_text.specs.Scans.{all_keys, bracketed, families_of, optional_row, range_of, rows_between, short_text}
 use Rattle.tablet_model.specs.Cuts.{Everything, BeforeRow, BehindRow}
 use Rattle.cell_key.specs.FileNumbers.{with_number}
 use Rattle.script_text.specs.Lines.{config_bytes, lines_of, script_lines}
 use Rattle.script_text.specs.declared.line.Line.{Line}
-use Rattle.script_text.specs.declared.line.Line.TheVariants.{Nothing, Mutate, Scan, Open, Fetch, Renew, Drop, Close, Freeze, Flushed, Status, Compact, CompactAll, Finish}
-use Rattle.script_text.specs.declared.refusal.Refusal.TheVariants.{Syntax, Bound, InJob}
+use Rattle.script_text.specs.declared.line.Line.TheVariants.{Nothing, Step, Scan, Session, Status}
+use Rattle.script_text.specs.declared.line.SessionStep.TheVariants.{Open, Fetch, Renew, Drop, Close}
+use Rattle.tablet_steps.specs.declared.event.Event.TheVariants.{Apply, Freeze, Flush, Compact, CompactAll, Finish}
 
 -- ---- lines that are read
 
@@ -23,66 +23,66 @@ change family qualifier visibility value = record { family = family; qualifier =
 
 -- changes of this row
 mutation : List ℕ → List Update → Option Line
-mutation row updates = Some (Mutate (record { row = row; updates = updates }))
+mutation row updates = Some (Step (Apply (record { row = row; updates = updates })))
 
 one_put : line_of (codes "m r1 +a:x:=1") ≡ mutation (codes "r1") (change (codes "a") (codes "x") [] (Some (codes "1")) ∷ [])
-unfolding reading_of mutation_of update_of put_of change mutation
+unfolding reading_of line_by_word mutation_of update_of put_of change mutation
 one_put = refl
 
 two_updates : line_of (codes "\t m  r\\x201\t+a:x:v= -b::w ") ≡ mutation (codes "r 1") (change (codes "a") (codes "x") (codes "v") (Some []) ∷ change (codes "b") [] (codes "w") None ∷ [])
-unfolding reading_of mutation_of update_of put_of delete_of change mutation
+unfolding reading_of line_by_word mutation_of update_of put_of delete_of change mutation
 two_updates = refl
 
 -- the visibility of a delete runs to the end
 delete_with_equals : line_of (codes "m r -a:x:v=1") ≡ mutation (codes "r") (change (codes "a") (codes "x") (codes "v=1") None ∷ [])
-unfolding reading_of mutation_of update_of delete_of change mutation
+unfolding reading_of line_by_word mutation_of update_of delete_of change mutation
 delete_with_equals = refl
 
 -- the visibility of a put runs to the first = behind the second :
 put_with_colons : line_of (codes "m r +a:x:v:w=1=2") ≡ mutation (codes "r") (change (codes "a") (codes "x") (codes "v:w") (Some (codes "1=2")) ∷ [])
-unfolding reading_of mutation_of update_of put_of change mutation
+unfolding reading_of line_by_word mutation_of update_of put_of change mutation
 put_with_colons = refl
 
 put_with_equals : line_of (codes "m r +a=:x=:=1") ≡ mutation (codes "r") (change (codes "a=") (codes "x=") [] (Some (codes "1")) ∷ [])
-unfolding reading_of mutation_of update_of put_of change mutation
+unfolding reading_of line_by_word mutation_of update_of put_of change mutation
 put_with_equals = refl
 
 no_updates : line_of (codes "m r1") ≡ mutation (codes "r1") []
-unfolding reading_of mutation_of mutation
+unfolding reading_of line_by_word mutation_of mutation
 no_updates = refl
 
 whole_scan : line_of (codes " scan\t") ≡ Some (Scan all_keys None)
-unfolding reading_of scan_of
+unfolding reading_of line_by_word scan_of
 whole_scan = refl
 
 scan_of_a_range : line_of (codes "scan [r1,r\\x32) fams=a,") ≡ Some (Scan (record { start = BeforeRow (codes "r1"); end = BeforeRow (codes "r2") }) (Some (codes "a" ∷ [] ∷ [])))
-unfolding reading_of scan_of range_of bracketed rows_between optional_row short_text families_of
+unfolding reading_of line_by_word scan_of range_of bracketed rows_between optional_row short_text families_of
 scan_of_a_range = refl
 
 -- an empty row is a missing one, and the first comma cuts
 scan_of_an_odd_range : line_of (codes "scan [(,)) fams=") ≡ Some (Scan (record { start = BeforeRow (codes "("); end = BeforeRow (codes ")") }) (Some ([] ∷ [])))
-unfolding reading_of scan_of range_of bracketed rows_between optional_row short_text families_of
+unfolding reading_of line_by_word scan_of range_of bracketed rows_between optional_row short_text families_of
 scan_of_an_odd_range = refl
 
-open_session : line_of (codes "open s01 (,r] isolated") ≡ Some (Open 1 (record { start = Everything; end = BehindRow (codes "r") }) None true)
-unfolding reading_of session_line_of open_of number_of range_of bracketed rows_between optional_row short_text
+open_session : line_of (codes "open s01 (,r] isolated") ≡ Some (Session 1 (Open (record { start = Everything; end = BehindRow (codes "r") }) None true))
+unfolding reading_of line_by_word open_of number_of range_of bracketed rows_between optional_row short_text
 open_session = refl
 
-fetch : line_of (codes "fetch s64 0000000010") ≡ Some (Fetch 64 10)
-unfolding reading_of session_line_of fetch_of number_of
+fetch : line_of (codes "fetch s64 0000000010") ≡ Some (Session 64 (Fetch 10))
+unfolding reading_of line_by_word fetch_of number_of
 fetch = refl
 
-session_lines : map line_of (codes "renew s1" ∷ codes "drop s2" ∷ codes "close s3" ∷ []) ≡ Some (Renew 1) ∷ Some (Drop 2) ∷ Some (Close 3) ∷ []
-unfolding reading_of session_line_of number_of
+session_lines : map line_of (codes "renew s1" ∷ codes "drop s2" ∷ codes "close s3" ∷ []) ≡ Some (Session 1 Renew) ∷ Some (Session 2 Drop) ∷ Some (Session 3 Close) ∷ []
+unfolding reading_of line_by_word number_of
 session_lines = refl
 
 -- a file that is named twice counts once
-compact : line_of (codes "compact j7 f3 f1 f3") ≡ Some (Compact 7 (1 ∷ 3 ∷ []))
-unfolding reading_of session_line_of store_line_of compact_of number_of with_number
+compact : line_of (codes "compact j7 f3 f1 f3") ≡ Some (Step (Compact 7 (1 ∷ 3 ∷ [])))
+unfolding reading_of line_by_word compact_of number_of with_number
 compact = refl
 
-store_lines : map line_of (codes "freeze" ∷ codes "flushed" ∷ codes "status" ∷ codes "compact j1" ∷ codes "compactall j999999" ∷ codes "finish j1" ∷ []) ≡ Some Freeze ∷ Some Flushed ∷ Some Status ∷ Some (Compact 1 []) ∷ Some (CompactAll 999999) ∷ Some (Finish 1) ∷ []
-unfolding reading_of session_line_of store_line_of compact_of number_of
+store_lines : map line_of (codes "freeze" ∷ codes "flushed" ∷ codes "status" ∷ codes "compact j1" ∷ codes "compactall j999999" ∷ codes "finish j1" ∷ []) ≡ Some (Step Freeze) ∷ Some (Step Flush) ∷ Some Status ∷ Some (Step (Compact 1 [])) ∷ Some (Step (CompactAll 999999)) ∷ Some (Step (Finish 1)) ∷ []
+unfolding reading_of line_by_word compact_of number_of
 store_lines = refl
 
 comment : line_of (codes "\t#m r1") ≡ Some Nothing
@@ -96,40 +96,40 @@ blank = refl
 -- ---- lines that are not
 
 no_row : line_of (codes "m") ≡ None
-unfolding reading_of mutation_of
+unfolding reading_of line_by_word mutation_of
 no_row = refl
 
 no_value : line_of (codes "m r1 +a:x") ≡ None
-unfolding reading_of mutation_of update_of put_of
+unfolding reading_of line_by_word mutation_of update_of put_of
 no_value = refl
 
 no_sign : line_of (codes "m r1 a:x:=1") ≡ None
-unfolding reading_of mutation_of update_of
+unfolding reading_of line_by_word mutation_of update_of
 no_sign = refl
 
 bad_escape : line_of (codes "m r1 +a:x:=\\x4") ≡ None
-unfolding reading_of mutation_of update_of put_of
+unfolding reading_of line_by_word mutation_of update_of put_of
 bad_escape = refl
 
 two_returns : line_of (codes "scan\r") ≡ None
-unfolding reading_of session_line_of store_line_of
+unfolding reading_of line_by_word
 two_returns = refl
 
 -- the first byte and the last are the brackets, and there is a comma
 bad_ranges : map line_of (codes "scan r1" ∷ codes "scan [r1]" ∷ codes "scan [r1,r2" ∷ codes "scan [" ∷ codes "scan [r\\x2,]" ∷ codes "scan * *" ∷ []) ≡ None ∷ None ∷ None ∷ None ∷ None ∷ None ∷ []
-unfolding reading_of scan_of range_of bracketed rows_between optional_row short_text
+unfolding reading_of line_by_word scan_of range_of bracketed rows_between optional_row short_text
 bad_ranges = refl
 
 bad_numbers : map line_of (codes "open s0" ∷ codes "open s65" ∷ codes "open 1" ∷ codes "fetch s1 0" ∷ codes "fetch s1 1000001" ∷ codes "fetch s1 00000000001" ∷ codes "fetch s1 +1" ∷ codes "compact j0" ∷ codes "finish j1000000" ∷ codes "compact j1 f0" ∷ []) ≡ None ∷ None ∷ None ∷ None ∷ None ∷ None ∷ None ∷ None ∷ None ∷ None ∷ []
-unfolding reading_of session_line_of store_line_of open_of fetch_of compact_of number_of
+unfolding reading_of line_by_word open_of fetch_of compact_of number_of
 bad_numbers = refl
 
 too_many_words : map line_of (codes "freeze now" ∷ codes "renew s1 s2" ∷ codes "finish" ∷ codes "open s1 isolated fams=a" ∷ codes "thaw" ∷ []) ≡ None ∷ None ∷ None ∷ None ∷ None ∷ []
-unfolding reading_of session_line_of store_line_of open_of number_of families_of short_text
+unfolding reading_of line_by_word open_of number_of families_of short_text
 too_many_words = refl
 
 late_comment : line_of (codes "scan #") ≡ None
-unfolding reading_of scan_of
+unfolding reading_of line_by_word scan_of
 late_comment = refl
 
 -- ---- inputs
@@ -179,17 +179,3 @@ scan_of_none = refl
 scan_of_one : scan_text 12 (entry (codes "r1") (pos 1) false (codes "1") ∷ []) ≡ codes "at 12\nr1 a:x: @1 =1\nend 12\n"
 unfolding found_text entry_line entry digits
 scan_of_one = refl
-
-accepted : accepted_line 524288 ≡ codes "m 524288\n"
-unfolding digits
-accepted = refl
-
-syntax_refusal : refusal_line Syntax ≡ codes "no syntax\n"
-syntax_refusal = refl
-
-bound_refusal : refusal_line (Bound Updates) ≡ codes "no bound updates\n"
-bound_refusal = refl
-
-job_refusal : refusal_line (InJob 12 3) ≡ codes "no in-job f12 j3\n"
-unfolding digits
-job_refusal = refl

@@ -9,7 +9,10 @@ use Rattle.script_text.specs.Numbers.{file_of, job_of, number_to, session_of}
 use Rattle.script_text.specs.Scans.{behind_families, behind_range, families_in, families_text, range_in, range_word}
 use Rattle.script_text.specs.Words.{split_once, text_of, words_of}
 use Rattle.script_text.specs.declared.line.Line.{Line}
-use Rattle.script_text.specs.declared.line.Line.TheVariants.{Nothing, Mutate, Scan, Open, Fetch, Renew, Drop, Close, Freeze, Flushed, Status, Compact, CompactAll, Finish}
+use Rattle.script_text.specs.declared.line.Line.TheVariants.{Nothing, Step, Scan, Session, Status}
+use Rattle.script_text.specs.declared.line.SessionStep.{SessionStep}
+use Rattle.script_text.specs.declared.line.SessionStep.TheVariants.{Open, Fetch, Renew, Drop, Close}
+use Rattle.tablet_steps.specs.declared.event.Event.TheVariants.{Apply, Freeze, Flush, Compact, CompactAll, Finish}
 
 -- FAMILY:QUALIFIER:VISIBILITY=VALUE, each part up to the first byte that ends it
 unfoldable pub put_of : List ℕ → Option Update
@@ -52,7 +55,7 @@ mutation_of [] = None
 mutation_of (word ∷ words) = do
   row ← text_of word
   updates ← updates_of words
-  Some (Mutate (record { row = row; updates = updates }))
+  Some (Step (Apply (record { row = row; updates = updates })))
 
 -- nothing stands behind a line's words
 abbrev pub ended : List (List ℕ) → Option Line → Option Line
@@ -80,7 +83,7 @@ open_of (word ∷ words) = do
   range ← range_in (range_word words)
   families ← families_in (families_text (behind_range words))
   isolated ← isolated_of (behind_families (behind_range words))
-  Some (Open session range families isolated)
+  Some (Session session (Open range families isolated))
 
 -- the only word
 abbrev pub only_word : List (List ℕ) → Option (List ℕ)
@@ -95,19 +98,27 @@ fetch_of (word ∷ words) = do
   session ← session_of word
   last ← only_word words
   count ← number_to 1000000 last
-  Some (Fetch session count)
+  Some (Session session (Fetch count))
 
 -- what stands behind renew, drop and close: a session
-abbrev pub only_session : List (List ℕ) → Option ℕ
-only_session words = do
+abbrev pub session_step_of : SessionStep → List (List ℕ) → Option Line
+session_step_of step words = do
   word ← only_word words
-  session_of word
+  session ← session_of word
+  Some (Session session step)
 
--- what stands behind compactall and finish: a job
+-- a job alone
 abbrev pub only_job : List (List ℕ) → Option ℕ
 only_job words = do
   word ← only_word words
   job_of word
+
+-- what stands behind compactall and finish: a job
+abbrev pub compact_all_of : List (List ℕ) → Option Line
+compact_all_of words = option_map (λ job. Step (CompactAll job)) (only_job words)
+
+abbrev pub finish_of : List (List ℕ) → Option Line
+finish_of words = option_map (λ job. Step (Finish job)) (only_job words)
 
 -- each word is a file; one that is named twice counts once
 abbrev pub files_onto : List ℕ → List (List ℕ) → Option (List ℕ)
@@ -122,39 +133,33 @@ compact_of [] = None
 compact_of (word ∷ words) = do
   job ← job_of word
   ids ← files_onto [] words
-  Some (Compact job ids)
+  Some (Step (Compact job ids))
 
 abbrev pub is_comment : List ℕ → Bool
 is_comment [] = false
 is_comment (b ∷ bs) = b == hash
 
--- a line that asks for the store's steps or its state, by its first word
-unfoldable pub store_line_of : List ℕ → List (List ℕ) → Option Line
-store_line_of word words =
-    if bytes_eq word (codes "freeze") then ended words (Some Freeze) else
-    if bytes_eq word (codes "flushed") then ended words (Some Flushed) else
-    if bytes_eq word (codes "status") then ended words (Some Status) else
-    if bytes_eq word (codes "compact") then compact_of words else
-    if bytes_eq word (codes "compactall") then option_map CompactAll (only_job words) else
-    if bytes_eq word (codes "finish") then option_map Finish (only_job words) else None
-
--- a line that asks a session, or the store
-unfoldable pub session_line_of : List ℕ → List (List ℕ) → Option Line
-session_line_of word words =
+-- a line by its first word and the words behind it
+unfoldable pub line_by_word : List ℕ → List (List ℕ) → Option Line
+line_by_word word words =
+    if bytes_eq word (codes "m") then mutation_of words else
+    if bytes_eq word (codes "scan") then scan_of words else
     if bytes_eq word (codes "open") then open_of words else
     if bytes_eq word (codes "fetch") then fetch_of words else
-    if bytes_eq word (codes "renew") then option_map Renew (only_session words) else
-    if bytes_eq word (codes "drop") then option_map Drop (only_session words) else
-    if bytes_eq word (codes "close") then option_map Close (only_session words) else
-    store_line_of word words
+    if bytes_eq word (codes "renew") then session_step_of Renew words else
+    if bytes_eq word (codes "drop") then session_step_of Drop words else
+    if bytes_eq word (codes "close") then session_step_of Close words else
+    if bytes_eq word (codes "freeze") then ended words (Some (Step Freeze)) else
+    if bytes_eq word (codes "flushed") then ended words (Some (Step Flush)) else
+    if bytes_eq word (codes "compact") then compact_of words else
+    if bytes_eq word (codes "compactall") then compact_all_of words else
+    if bytes_eq word (codes "finish") then finish_of words else
+    if bytes_eq word (codes "status") then ended words (Some Status) else None
 
 -- the reading of a line's words
 unfoldable pub reading_of : List (List ℕ) → Option Line
 reading_of [] = Some Nothing
-reading_of (word ∷ words) =
-    if is_comment word then Some Nothing else
-    if bytes_eq word (codes "m") then mutation_of words else
-    if bytes_eq word (codes "scan") then scan_of words else session_line_of word words
+reading_of (word ∷ words) = if is_comment word then Some Nothing else line_by_word word words
 
 -- the reading of a line
 abbrev pub line_of : List ℕ → Option Line

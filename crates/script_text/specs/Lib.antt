@@ -6,5 +6,5 @@ pub mod Numbers
 pub mod Scans
 pub mod Grammar
 pub mod Answers
-pub mod StoreAnswers
+pub mod StatusAnswers
 pub mod SessionAnswers

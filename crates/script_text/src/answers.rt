@@ -1,32 +1,13 @@
+// Entries as they are written, and the lines round them.
 // Each function that appends may leave a part of its line in the text where memory is wanting.
 ghost use Rattle.std.specs.Prelude.{◌≡◌, ◌++◌, IfOk, OnOk};
-ghost use Rattle.std.specs.Fmt.{decimal, signed_decimal};
+ghost use Rattle.std.specs.Fmt.{signed_decimal};
 ghost use Rattle.cell_key.specs.Views.{cell_of};
-ghost use Rattle.script_text.specs.Answers.{accepted_line, at_line, count_line, end_line, entry_line, number_line, value_text};
+ghost use Rattle.script_text.specs.Answers.{at_line, count_line, end_line, entry_line, value_text};
 
 use cell_key::{ByteText, EntryRef, NoMemory, append_escape};
 use std::alloc::Global;
-
-/// Appends a number, without leading zeros.
-fn append_number(alloc: Global, text: &mut ByteText, n: u64) -> Result<(), NoMemory>
-    ensures { OnOk result (text.new ≡ text.old ++ decimal n) }
-{
-    let digits = n.to_string(alloc)?;
-    text.append(digits.as_str().as_bytes())
-}
-
-/// Appends a word and a number.
-pub(crate) fn append_numbered(
-    alloc: Global,
-    text: &mut ByteText,
-    word: &[u8],
-    n: u64,
-) -> Result<(), NoMemory>
-    ensures { OnOk result (text.new ≡ text.old ++ (word.now ++ decimal n)) }
-{
-    text.append(word)?;
-    append_number(alloc, text, n)
-}
+use tablet_steps::append_number_line;
 
 fn append_time(alloc: Global, text: &mut ByteText, time: i64) -> Result<(), NoMemory>
     ensures { OnOk result (text.new ≡ text.old ++ signed_decimal time) }
@@ -72,27 +53,6 @@ pub fn entry_text(alloc: Global, entry: EntryRef<'_>) -> Result<ByteText, NoMemo
     let mut text = ByteText::new(alloc);
     append_entry(alloc, &mut text, entry)?;
     Ok(text)
-}
-
-pub(crate) fn append_number_line(
-    alloc: Global,
-    text: &mut ByteText,
-    word: &[u8],
-    n: u64,
-) -> Result<(), NoMemory>
-    ensures { OnOk result (text.new ≡ text.old ++ number_line word.now n) }
-{
-    text.append(word)?;
-    text.append(b" ")?;
-    append_number(alloc, text, n)?;
-    text.append(b"\n")
-}
-
-/// Appends `m N`: a mutation was accepted, as the `n`th.
-pub fn append_accepted(alloc: Global, text: &mut ByteText, n: u64) -> Result<(), NoMemory>
-    ensures { OnOk result (text.new ≡ text.old ++ accepted_line n) }
-{
-    append_number_line(alloc, text, b"m", n)
 }
 
 /// Appends `at N`: entries follow, of a view of the first `n` mutations.

@@ -1,41 +1,16 @@
+// Lines by their first word.
 ghost use Rattle.std.specs.Prelude.{◌≡◌};
-ghost use Rattle.script_text.specs.Grammar.{is_comment, line_of, mutation_of, scan_of};
+ghost use Rattle.script_text.specs.Grammar.{is_comment, line_by_word, line_of};
 ghost use Rattle.script_text.specs.Reading.{Gives};
 ghost use Rattle.script_text.specs.Words.{words_of};
 
-use crate::line::{Line, LineError};
-use crate::parts::part_text;
-use crate::scans::{families_in, range_in, take_families, take_range};
-use crate::session_lines::parse_session_line;
-use crate::updates::parse_updates;
+use crate::line::{Line, LineError, SessionStep};
+use crate::scan_line::parse_scan;
+use crate::session_lines::{parse_fetch, parse_open, parse_session_step};
+use crate::step_lines::{parse_compact, parse_compact_all, parse_finish, parse_mutation};
 use crate::words::{ended, next_word};
-use cell_key::Mutation;
 use std::alloc::Global;
-
-/// What stands behind `m`: a row and its updates.
-#[tactic(auto, unfolding(crate::specs::Grammar::mutation_of))]
-fn parse_mutation(alloc: Global, text: &[u8]) -> Result<Line, LineError>
-    ensures { Gives (λ l. l) (mutation_of (words_of text.now)) result }
-{
-    let Some((row, rest)) = next_word(text) else {
-        return Err(LineError::Syntax);
-    };
-    let row = part_text(alloc, row)?;
-    let updates = parse_updates(alloc, rest)?;
-    Ok(Line::Mutate(Mutation { row, updates }))
-}
-
-/// What stands behind `scan`: a range, then families, both optional.
-#[tactic(auto, unfolding(crate::specs::Grammar::scan_of))]
-fn parse_scan(alloc: Global, text: &[u8]) -> Result<Line, LineError>
-    ensures { Gives (λ l. l) (scan_of (words_of text.now)) result }
-{
-    let (range, rest) = take_range(text);
-    let (families, rest) = take_families(rest);
-    let range = range_in(alloc, range)?;
-    let families = families_in(alloc, families)?;
-    ended(rest, Line::Scan { range, families })
-}
+use tablet_steps::Event;
 
 fn is_comment(word: &[u8]) -> bool
     ensures { result ≡ is_comment word.now }
@@ -43,16 +18,53 @@ fn is_comment(word: &[u8]) -> bool
     matches!(word, [b'#', ..])
 }
 
+/// A line by its first word and what follows it.
+#[tactic(auto, unfolding(crate::specs::Grammar::line_by_word))]
+fn parse_by_word(alloc: Global, word: &[u8], rest: &[u8]) -> Result<Line, LineError>
+    ensures { Gives (λ l. l) (line_by_word word.now (words_of rest.now)) result }
+{
+    if word == b"m".as_slice() {
+        parse_mutation(alloc, rest)
+    } else if word == b"scan".as_slice() {
+        parse_scan(alloc, rest)
+    } else if word == b"open".as_slice() {
+        parse_open(alloc, rest)
+    } else if word == b"fetch".as_slice() {
+        parse_fetch(rest)
+    } else if word == b"renew".as_slice() {
+        parse_session_step(rest, SessionStep::Renew)
+    } else if word == b"drop".as_slice() {
+        parse_session_step(rest, SessionStep::Drop)
+    } else if word == b"close".as_slice() {
+        parse_session_step(rest, SessionStep::Close)
+    } else if word == b"freeze".as_slice() {
+        ended(rest, Line::Step(Event::Freeze))
+    } else if word == b"flushed".as_slice() {
+        ended(rest, Line::Step(Event::Flush))
+    } else if word == b"compact".as_slice() {
+        parse_compact(alloc, rest)
+    } else if word == b"compactall".as_slice() {
+        parse_compact_all(rest)
+    } else if word == b"finish".as_slice() {
+        parse_finish(rest)
+    } else if word == b"status".as_slice() {
+        ended(rest, Line::Status)
+    } else {
+        Err(LineError::Syntax)
+    }
+}
+
 /// Reads a script line, without the newline that ends it. Its words stand between runs of spaces and tabs.
 ///
 /// - No words, or a first word that begins with `#`, is [`Line::Nothing`].
-/// - `m ROW UPDATE ..` is [`Line::Mutate`]. A put is `+FAMILY:QUALIFIER:VISIBILITY=VALUE`, a delete is
+/// - `m ROW UPDATE ..` is a mutation. A put is `+FAMILY:QUALIFIER:VISIBILITY=VALUE`, a delete is
 ///   `-FAMILY:QUALIFIER:VISIBILITY`, and a part runs to the first byte that ends it and is then unescaped.
+/// - `freeze`, `flushed`, `compact jN fN ..`, `compactall jN` and `finish jN` are the other steps of the store, and `status`
+///   asks what it holds.
 /// - `scan` with an optional RANGE and optional FAMS is [`Line::Scan`]. RANGE is `*`, or an opening `[` or `(`, an
 ///   optional row, `,`, an optional row, and a closing `]` or `)`; FAMS is `fams=` and 1 to 64 families between commas.
 /// - `open sN` with an optional RANGE, FAMS and `isolated`, `fetch sN COUNT`, `renew sN`, `drop sN` and `close sN` ask a
 ///   session.
-/// - `freeze`, `flushed`, `status`, `compact jN fN ..`, `compactall jN` and `finish jN` ask the store.
 ///
 /// Any other line has no reading, and the error [`LineError::Syntax`] comes exactly there.
 #[tactic(auto, unfolding(crate::specs::Grammar::reading_of))]
@@ -65,11 +77,5 @@ pub fn parse_line(alloc: Global, line: &[u8]) -> Result<Line, LineError>
     if is_comment(word) {
         return Ok(Line::Nothing);
     }
-    if word == b"m".as_slice() {
-        return parse_mutation(alloc, rest);
-    }
-    if word == b"scan".as_slice() {
-        return parse_scan(alloc, rest);
-    }
-    parse_session_line(alloc, word, rest)
+    parse_by_word(alloc, word, rest)
 }

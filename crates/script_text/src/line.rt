@@ -1,4 +1,5 @@
-use cell_key::{Families, FileIds, Mutation, NoMemory, RangeBuf};
+use cell_key::{Families, NoMemory, RangeBuf};
+use tablet_steps::Event;
 use thiserror::Error;
 
 /// What a script line says. Sessions are from 1 to 64, jobs from 1 to 999,999, files from 1 to 9,999,999,999.
@@ -6,51 +7,37 @@ use thiserror::Error;
 pub enum Line {
     /// A blank line or a comment. It has no answer.
     Nothing,
-    /// `m ROW UPDATE ..`: these changes of one row, maybe none. Their bounds are not part of the syntax.
-    Mutate(Mutation),
+    /// `m ROW UPDATE ..`, `freeze`, `flushed`, `compact jN fN ..`, `compactall jN` or `finish jN`: a step of the store. The
+    /// bounds of a mutation are not part of the syntax, and a compaction may have no files.
+    Step(Event),
     /// `scan`: one whole scan of the present view.
-    Scan {
-        range: RangeBuf,
-        families: Families,
-    },
-    /// `open sN`: a session on the present view.
+    Scan { range: RangeBuf, families: Families },
+    /// A line that asks the session of a number.
+    Session { session: u32, step: SessionStep },
+    /// `status`: what the store holds.
+    Status,
+}
+
+/// What a session is asked for.
+#[derive(Drop)]
+pub enum SessionStep {
+    /// `open sN`: it is opened on the present view.
     Open {
-        session: u32,
         range: RangeBuf,
         families: Families,
         /// Whether its pieces end at rows.
         isolated: bool,
     },
-    /// `fetch sN COUNT`: the next entries of a session, `count` of them, from 1 to 1,000,000.
+    /// `fetch sN COUNT`: its next entries, `count` of them, from 1 to 1,000,000.
     Fetch {
-        session: u32,
         count: u32,
     },
-    /// `renew sN`: the session moves to the present view.
-    Renew(u32),
-    /// `drop sN`: the session's stack is torn down.
-    Drop(u32),
-    /// `close sN`: the session ends.
-    Close(u32),
-    /// `freeze`: the memory becomes the frozen part.
-    Freeze,
-    /// `flushed`: the frozen part becomes a file.
-    Flushed,
-    /// `compact jN fN ..`: a job starts on these files, maybe none.
-    Compact {
-        job: u32,
-        files: FileIds,
-    },
-    /// `compactall jN`: a job starts on all files.
-    CompactAll {
-        job: u32,
-    },
-    /// `finish jN`: a job ends.
-    Finish {
-        job: u32,
-    },
-    /// `status`: what the store holds.
-    Status,
+    /// `renew sN`: it moves to the present view.
+    Renew,
+    /// `drop sN`: its stack is torn down.
+    Drop,
+    /// `close sN`: it ends.
+    Close,
 }
 
 /// Why a line was not read.

@@ -2,9 +2,10 @@
 ghost use Rattle.std.specs.Prelude.{◌≡◌, ◌++◌, OnOk};
 ghost use Rattle.script_text.specs.SessionAnswers.{closed_line, dropped_line, opened_line, renewed_line, rest_line};
 
-use crate::answers::{append_end, append_numbered};
+use crate::answers::append_end;
 use cell_key::{ByteText, NoMemory};
 use std::alloc::Global;
+use tablet_steps::append_numbered;
 
 /// Appends `open sN n`: a session was opened on a view of the first `n` mutations.
 pub fn append_opened(

@@ -10,7 +10,7 @@ use iter_config::ConfigError;
 use compactor::DoneJob;
 use std::alloc::Global;
 use std::test::Fail;
-use tablet_core::{Answer, Core, Event, FileCount, StoreStatus};
+use tablet_core::{Answer, Core, Event, FileCount, StepRefusal, StoreStatus};
 
 /// What a core is asked for.
 #[derive(Clone, Copy)]
@@ -45,7 +45,7 @@ fn event(alloc: Global, step: Step) -> Result<Event, NoMemory> {
             &[(b's', Some(value)), (b'v', None)],
         )?)),
         Step::Freeze => Ok(Event::Freeze),
-        Step::Flush => Ok(Event::Flushed),
+        Step::Flush => Ok(Event::Flush),
         Step::Compact(job, file) => Ok(Event::Compact {
             job,
             files: file_ids(alloc, file)?,
@@ -298,8 +298,8 @@ fn flush(alloc: Global, core: &mut Core) -> Answer {
         return Answer::NoMemory;
     }
     match written(alloc, core) {
-        Ok(Some(done)) => core.install_flushed(alloc, &done),
-        Ok(None) => Answer::NothingFrozen,
+        Ok(Some(done)) => core.install_flush(alloc, &done),
+        Ok(None) => Answer::Refused(StepRefusal::NothingFrozen),
         Err(_) => Answer::NoMemory,
     }
 }
@@ -320,8 +320,8 @@ fn finish(alloc: Global, core: &mut Core, job: u32) -> Answer {
         return Answer::NoMemory;
     }
     match compacted(alloc, core, job) {
-        Ok(Some(done)) => core.install_finished(alloc, job, &done),
-        Ok(None) => Answer::NoSuchJob(job),
+        Ok(Some(done)) => core.install_finish(alloc, job, &done),
+        Ok(None) => Answer::Refused(StepRefusal::NoSuchJob(job)),
         Err(_) => Answer::NoMemory,
     }
 }

@@ -7,6 +7,8 @@ use Rattle.iter_config.specs.RulesOf.{rules_of}
 use Rattle.iter_config.specs.declared.iter_spec.IterSpec.{IterSpec}
 use Rattle.tablet_view.specs.Snapshot.{Snapshot, empty_snapshot, store_of}
 use Rattle.tablet_view.specs.Extending.{Extends}
+use Rattle.tablet_steps.specs.ModelSteps.{model_refusal_of}
+use Rattle.tablet_steps.specs.declared.refusal.StepRefusal.{StepRefusal}
 
 -- a snapshot of a tablet, the number of its next file, and its running jobs
 pub record CoreState : Type 0 where
@@ -40,3 +42,8 @@ pub record IsStep (e : Event) (k l : CoreState) : Type 0 where
 abbrev pub Answers : Event → CoreState → CoreState → Option StepAnswer → Type 0
 Answers e k l None = (refuse (rules_of k.view.config) (state_of k) e ≡ None) × (l ≡ k)
 Answers e k l (Some a) = (a ≡ answered (rules_of k.view.config) (state_of k) e) × IsStep e k l
+
+-- a refusal is why a step is refused; none, that no refusal stands
+abbrev pub IsRefusal : Option StepRefusal → Option StepAnswer → Type 0
+IsRefusal None refusal = refusal ≡ None
+IsRefusal (Some r) refusal = Some (model_refusal_of r) ≡ refusal

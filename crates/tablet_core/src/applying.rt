@@ -5,14 +5,14 @@ ghost use Rattle.tablet_model.specs.Steps as model;
 ghost use Rattle.cell_key.specs.Mutations.{row_change_of};
 ghost use Rattle.tablet_view.specs.Refusals.{refusal_in};
 ghost use Rattle.tablet_view.specs.Snapshot.{applied, refused_by};
-ghost use Rattle.tablet_core.specs.Said.{said};
+ghost use Rattle.tablet_steps.specs.ModelSteps.{model_answer_of};
 ghost use Rattle.tablet_core.specs.State.{Answers};
 
-use crate::answer::Answer;
 use crate::core_state::Core;
 use cell_key::{Mutation, NoMemory};
 use std::alloc::Global;
 use std::sync::Arc;
+use tablet_steps::{Answer, StepRefusal};
 use tablet_view::{ApplyError, View};
 
 impl Core {
@@ -30,7 +30,7 @@ impl Core {
     /// A mutation comes in.
     pub(crate) fn apply(&mut self, alloc: Global, mutation: &Mutation) -> Answer
         requires { self.old.view.version < 2 ^ 63 }
-        ensures { Answers (model.apply (row_change_of mutation.now)) self.old self.new (said result) }
+        ensures { Answers (model.apply (row_change_of mutation.now)) self.old self.new (model_answer_of result) }
     {
         let _ = self.view();
         match self.applied(alloc, mutation) {
@@ -39,7 +39,7 @@ impl Core {
                 self.view = view;
                 Answer::Applied(number)
             }
-            Err(ApplyError::Refused(refused)) => Answer::Refused(refused),
+            Err(ApplyError::Refused(refused)) => Answer::Refused(StepRefusal::Mutation(refused)),
             Err(ApplyError::NoMemory) => Answer::NoMemory,
         }
     }

@@ -9,17 +9,17 @@ ghost use Rattle.compactor.specs.Compacted.{compacted};
 ghost use Rattle.compactor.specs.PartCells.{part_cells};
 ghost use Rattle.compactor.specs.Jobs.{job_of};
 ghost use Rattle.tablet_view.specs.Snapshot.{replaced};
+ghost use Rattle.tablet_steps.specs.ModelSteps.{model_answer_of};
 ghost use Rattle.tablet_core.specs.Jobs.{major_of};
-ghost use Rattle.tablet_core.specs.Said.{said};
 ghost use Rattle.tablet_core.specs.State.{Answers, state_of};
 
-use crate::answer::Answer;
 use crate::core_state::Core;
 use cell_key::{FileIds, NoMemory};
 use compactor::{DoneJob, Job, JobState, PartCursor};
 use iter_stack::Usage;
 use std::alloc::Global;
 use std::sync::Arc;
+use tablet_steps::{Answer, StepRefusal};
 use tablet_view::View;
 
 /// What a major compaction runs: only one of all files drops markers.
@@ -93,10 +93,10 @@ impl Core {
     }
 
     /// The file of a job stands in the place of the job's files, whose compaction it has to be, and the job is over.
-    pub fn install_finished(&mut self, alloc: Global, job: u32, done: &DoneJob) -> Answer
+    pub fn install_finish(&mut self, alloc: Global, job: u32, done: &DoneJob) -> Answer
         requires version { self.old.view.version < 2 ^ 63 }
         requires made { IfSome (find_job job self.old.jobs) (λ t. compacted done.now ≡ made_by (rules_of self.old.view.config) (state_of self.old) t) }
-        ensures { Answers (model.finish job) self.old self.new (said result) }
+        ensures { Answers (model.finish job) self.old self.new (model_answer_of result) }
     {
         let _ = self.view();
         match self.replaced(alloc, job, done) {
@@ -111,7 +111,7 @@ impl Core {
                     count: done.file().count(),
                 }
             }
-            Ok(None) => Answer::NoSuchJob(job),
+            Ok(None) => Answer::Refused(StepRefusal::NoSuchJob(job)),
             Err(_) => Answer::NoMemory,
         }
     }
@@ -130,11 +130,11 @@ impl Core {
     /// A job is made, and its file stands in the place of its files.
     pub(crate) fn finish(&mut self, alloc: Global, job: u32) -> Answer
         requires { self.old.view.version < 2 ^ 63 }
-        ensures { Answers (model.finish job) self.old self.new (said result) }
+        ensures { Answers (model.finish job) self.old self.new (model_answer_of result) }
     {
         match self.finished(alloc, job) {
-            Ok(Some(done)) => self.install_finished(alloc, job, &done),
-            Ok(None) => Answer::NoSuchJob(job),
+            Ok(Some(done)) => self.install_finish(alloc, job, &done),
+            Ok(None) => Answer::Refused(StepRefusal::NoSuchJob(job)),
             Err(_) => Answer::NoMemory,
         }
     }

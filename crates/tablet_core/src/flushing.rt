@@ -7,17 +7,17 @@ ghost use Rattle.tablet_model.specs.Steps.{refuse};
 ghost use Rattle.iter_config.specs.RulesOf.{rules_of};
 ghost use Rattle.compactor.specs.Compacted.{compacted};
 ghost use Rattle.tablet_view.specs.Snapshot.{flushed};
+ghost use Rattle.tablet_steps.specs.ModelSteps.{model_answer_of};
 ghost use Rattle.tablet_core.specs.Jobs.{flush_of};
-ghost use Rattle.tablet_core.specs.Said.{IsRefusal, said};
-ghost use Rattle.tablet_core.specs.State.{Answers, state_of};
+ghost use Rattle.tablet_core.specs.State.{Answers, IsRefusal, state_of};
 
-use crate::answer::Answer;
 use crate::core_state::Core;
 use cell_key::NoMemory;
 use compactor::{DoneJob, Job};
 use iter_stack::Usage;
 use std::alloc::Global;
 use std::sync::Arc;
+use tablet_steps::{Answer, StepRefusal};
 use tablet_view::View;
 
 /// The most files where a frozen part is written.
@@ -25,14 +25,14 @@ const MAX_FILES: usize = 64;
 
 impl Core {
     /// Why no file is written.
-    fn flush_refusal(&self) -> Option<Answer>
+    fn flush_refusal(&self) -> Option<StepRefusal>
         ensures { IsRefusal result (refuse (rules_of self.now.view.config) (state_of self.now) model.flush) }
     {
         if self.view.frozen_count().is_none() {
-            return Some(Answer::NothingFrozen);
+            return Some(StepRefusal::NothingFrozen);
         }
         if self.view.file_count() >= MAX_FILES {
-            return Some(Answer::TooManyFiles);
+            return Some(StepRefusal::TooManyFiles);
         }
         None
     }
@@ -51,7 +51,7 @@ impl Core {
         Ok(Some(Job::new(alloc, config, Usage::Minc, parts)?))
     }
 
-    fn flushed(&self, alloc: Global, done: &DoneJob) -> Result<Arc<View>, NoMemory>
+    fn view_after_flush(&self, alloc: Global, done: &DoneJob) -> Result<Arc<View>, NoMemory>
         requires version { self.now.view.version < 2 ^ 63 }
         requires frozen { IsSome self.now.view.frozen }
         requires made { compacted done.now ≡ minor_compaction (rules_of self.now.view.config).minor (unwrap_or self.now.view.frozen []) }
@@ -62,16 +62,16 @@ impl Core {
     }
 
     /// The file of a job stands in the place of the frozen part, whose minor compaction the job has to be.
-    pub fn install_flushed(&mut self, alloc: Global, done: &DoneJob) -> Answer
+    pub fn install_flush(&mut self, alloc: Global, done: &DoneJob) -> Answer
         requires version { self.old.view.version < 2 ^ 63 }
         requires made { IfSome self.old.view.frozen (λ z. compacted done.now ≡ minor_compaction (rules_of self.old.view.config).minor z) }
-        ensures { Answers model.flush self.old self.new (said result) }
+        ensures { Answers model.flush self.old self.new (model_answer_of result) }
     {
         if let Some(refusal) = self.flush_refusal() {
-            return refusal;
+            return Answer::Refused(refusal);
         }
         let _ = self.view();
-        match self.flushed(alloc, done) {
+        match self.view_after_flush(alloc, done) {
             Ok(view) => {
                 let file = self.next;
                 self.next = file + 1;
@@ -98,14 +98,14 @@ impl Core {
     /// The frozen part becomes a file.
     pub(crate) fn flush(&mut self, alloc: Global) -> Answer
         requires { self.old.view.version < 2 ^ 63 }
-        ensures { Answers model.flush self.old self.new (said result) }
+        ensures { Answers model.flush self.old self.new (model_answer_of result) }
     {
         if let Some(refusal) = self.flush_refusal() {
-            return refusal;
+            return Answer::Refused(refusal);
         }
         match self.written(alloc) {
-            Ok(Some(done)) => self.install_flushed(alloc, &done),
-            Ok(None) => Answer::NothingFrozen,
+            Ok(Some(done)) => self.install_flush(alloc, &done),
+            Ok(None) => Answer::Refused(StepRefusal::NothingFrozen),
             Err(_) => Answer::NoMemory,
         }
     }

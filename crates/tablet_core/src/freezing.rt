@@ -5,26 +5,26 @@ ghost use Rattle.tablet_model.specs.Steps as model;
 ghost use Rattle.tablet_model.specs.Steps.{refuse};
 ghost use Rattle.iter_config.specs.RulesOf.{rules_of};
 ghost use Rattle.tablet_view.specs.Snapshot.{frozen};
-ghost use Rattle.tablet_core.specs.Said.{IsRefusal, said};
-ghost use Rattle.tablet_core.specs.State.{Answers, state_of};
+ghost use Rattle.tablet_steps.specs.ModelSteps.{model_answer_of};
+ghost use Rattle.tablet_core.specs.State.{Answers, IsRefusal, state_of};
 
-use crate::answer::Answer;
 use crate::core_state::Core;
 use cell_key::NoMemory;
 use std::alloc::Global;
 use std::sync::Arc;
+use tablet_steps::{Answer, StepRefusal};
 use tablet_view::View;
 
 impl Core {
     /// Why nothing is frozen.
-    fn freeze_refusal(&self) -> Option<Answer>
+    fn freeze_refusal(&self) -> Option<StepRefusal>
         ensures { IsRefusal result (refuse (rules_of self.now.view.config) (state_of self.now) model.freeze) }
     {
         if self.view.frozen_count().is_some() {
-            return Some(Answer::FrozenThere);
+            return Some(StepRefusal::FrozenThere);
         }
         if self.view.memory_count() == 0 {
-            return Some(Answer::NothingInMemory);
+            return Some(StepRefusal::NothingInMemory);
         }
         None
     }
@@ -40,10 +40,10 @@ impl Core {
     /// The memory becomes the frozen part.
     pub(crate) fn freeze(&mut self, alloc: Global) -> Answer
         requires { self.old.view.version < 2 ^ 63 }
-        ensures { Answers model.freeze self.old self.new (said result) }
+        ensures { Answers model.freeze self.old self.new (model_answer_of result) }
     {
         if let Some(refusal) = self.freeze_refusal() {
-            return refusal;
+            return Answer::Refused(refusal);
         }
         let count = self.view().memory_count();
         match self.frozen(alloc) {

@@ -1,11 +1,9 @@
-// A tablet's core: its view and its running jobs, which change step by step as the store of lists does.
+//! A tablet's core: its view and its running jobs, which change step by step as the store of lists does.
 #![tactic(auto)]
 
-mod answer;
 mod applying;
 mod core_laws;
 mod core_state;
-mod event;
 mod finishing;
 mod flushing;
 mod freezing;
@@ -13,8 +11,8 @@ mod starting;
 mod status;
 mod stepping;
 
-pub use answer::Answer;
 pub use core_laws::jobs_may_end_later;
 pub use core_state::Core;
-pub use event::Event;
+pub use ingest::Refused;
 pub use status::{FileCount, FileCounts, StoreStatus};
+pub use tablet_steps::{Answer, Event, StepRefusal};

@@ -6,14 +6,14 @@ ghost use Rattle.tablet_model.specs.Stands.{AreRising};
 ghost use Rattle.tablet_model.specs.Store.{has_id};
 ghost use Rattle.iter_config.specs.RulesOf.{rules_of};
 ghost use Rattle.compactor.specs.Jobs.{job_of};
-ghost use Rattle.tablet_core.specs.Said.{IsRefusal, said};
-ghost use Rattle.tablet_core.specs.State.{Answers, state_of};
+ghost use Rattle.tablet_steps.specs.ModelSteps.{model_answer_of};
+ghost use Rattle.tablet_core.specs.State.{Answers, IsRefusal, state_of};
 
-use crate::answer::Answer;
 use crate::core_state::Core;
 use cell_key::{FileIds, NoMemory};
 use compactor::{JobState, RunningJobs};
 use std::alloc::Global;
+use tablet_steps::{Answer, StepRefusal};
 use tablet_view::View;
 
 /// Whether a view has the file.
@@ -80,36 +80,36 @@ fn file_ids(view: &View, alloc: Global) -> Result<FileIds, NoMemory>
 
 impl Core {
     /// Why no compaction of these files starts.
-    fn start_refusal(&self, job: u32, files: &FileIds) -> Option<Answer>
+    fn start_refusal(&self, job: u32, files: &FileIds) -> Option<StepRefusal>
         ensures { IsRefusal result (refuse (rules_of self.now.view.config) (state_of self.now) (model.compact job files.now)) }
     {
         if self.jobs.find(job).is_some() {
-            return Some(Answer::JobExists(job));
+            return Some(StepRefusal::JobExists(job));
         }
         if files.len() == 0 {
-            return Some(Answer::NoFiles);
+            return Some(StepRefusal::NoFiles);
         }
         if let Some(file) = first_missing(&self.view, files) {
-            return Some(Answer::NoSuchFile(file));
+            return Some(StepRefusal::NoSuchFile(file));
         }
         match self.jobs.first_taken(files) {
-            Some((file, job)) => Some(Answer::InJob { file, job }),
+            Some((file, job)) => Some(StepRefusal::InJob { file, job }),
             None => None,
         }
     }
 
     /// Why no compaction of all files starts.
-    fn start_all_refusal(&self, job: u32) -> Option<Answer>
+    fn start_all_refusal(&self, job: u32) -> Option<StepRefusal>
         ensures { IsRefusal result (refuse (rules_of self.now.view.config) (state_of self.now) (model.compact_all job)) }
     {
         if self.jobs.find(job).is_some() {
-            return Some(Answer::JobExists(job));
+            return Some(StepRefusal::JobExists(job));
         }
         if self.view.file_count() == 0 {
-            return Some(Answer::NoFiles);
+            return Some(StepRefusal::NoFiles);
         }
         match first_held(&self.view, &self.jobs) {
-            Some((file, job)) => Some(Answer::InJob { file, job }),
+            Some((file, job)) => Some(StepRefusal::InJob { file, job }),
             None => None,
         }
     }
@@ -135,10 +135,10 @@ impl Core {
 
     /// A compaction of these files starts. It is a full one exactly where these are all files.
     pub(crate) fn compact(&mut self, alloc: Global, job: u32, files: &FileIds) -> Answer
-        ensures { Answers (model.compact job files.now) self.old self.new (said result) }
+        ensures { Answers (model.compact job files.now) self.old self.new (model_answer_of result) }
     {
         if let Some(refusal) = self.start_refusal(job, files) {
-            return refusal;
+            return Answer::Refused(refusal);
         }
         let full = takes_all(self.view(), files);
         match self.start(alloc, job, full, files) {
@@ -149,10 +149,10 @@ impl Core {
 
     /// A full compaction of all files starts.
     pub(crate) fn compact_all(&mut self, alloc: Global, job: u32) -> Answer
-        ensures { Answers (model.compact_all job) self.old self.new (said result) }
+        ensures { Answers (model.compact_all job) self.old self.new (model_answer_of result) }
     {
         if let Some(refusal) = self.start_all_refusal(job) {
-            return refusal;
+            return Answer::Refused(refusal);
         }
         match file_ids(self.view(), alloc) {
             Ok(files) => self.compact(alloc, job, &files),

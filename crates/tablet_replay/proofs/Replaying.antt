@@ -10,19 +10,19 @@ use Rattle.compactor.specs.Jobs.{job_of}
 use Rattle.compactor.specs.declared.job_state.JobState.{JobState}
 use Rattle.scan_session.specs.Sessions.{SessionState, left_of}
 use Rattle.compactor.proofs.Written.{within_all}
-use Rattle.script_text.specs.Answers.{refusal_line}
+use Rattle.tablet_steps.specs.Texts.{refusal_line}
 use Rattle.script_text.specs.SessionAnswers.{opened_line}
-use Rattle.script_text.specs.declared.line.Line.TheVariants as line
-use Rattle.script_text.specs.declared.refusal.Refusal.TheVariants.{NoSession, SessionOpen}
-use Rattle.script_text.specs.StoreAnswers.{file_line, frozen_line, job_line, log_line, memory_line}
+use Rattle.script_text.specs.declared.line.SessionStep.TheVariants as step
+use Rattle.tablet_steps.specs.declared.refusal.LineRefusal.TheVariants.{NoSession, SessionOpen}
+use Rattle.script_text.specs.StatusAnswers.{file_line, frozen_line, job_line, log_line, memory_line}
 use Rattle.tablet_core.specs.State.{Answers, CoreState, state_of}
 use Rattle.tablet_core.specs.Status.{IsStatusOf, count_of}
 use Rattle.tablet_core.specs.declared.status.StoreStatus.{StoreStatus}
 use Rattle.tablet_view.specs.Snapshot.{store_of}
-use Rattle.tablet_replay.specs.Replay.{Replayed, after_line, if_open, line_answer, opened_scan, where_open}
+use Rattle.tablet_replay.specs.Replay.{Replayed, after_session_step, if_open, session_text, opened_scan, where_open}
 use Rattle.tablet_replay.specs.Sessions.{OpenScan, find_session, place_of, scanned, with_session, without_session}
 use Rattle.tablet_replay.specs.StatusText.{count_lines, state_lines, status_lines}
-use Rattle.tablet_replay.specs.Steps.{file_lines, job_lines, status_text}
+use Rattle.tablet_replay.specs.Status.{file_lines, job_lines, status_text}
 use Rattle.tablet_replay.specs.TabletParts.{ArePinned, open_scan, replayed_by}
 use Rattle.tablet_replay.specs.declared.sessions.OpenSession.{OpenSession}
 use Rattle.tablet_replay.proofs.OpenSessions.{all_pinned, none_open, one_open, removed_scan, scan_at, set_scan}
@@ -100,20 +100,20 @@ module _ (k : CoreState) (ss : List OpenSession) (number : ℕ) where
     unfolding open_change made
     none_change change = sym (ap (λ o. made (open_change change o)) nothing)
 
-    pub none_closed : replayed_by (record { core = k; sessions = ss }) ≡ after_line (replayed_by (record { core = k; sessions = ss })) (Some (line.Close number))
-    unfolding after_line made
+    pub none_closed : replayed_by (record { core = k; sessions = ss }) ≡ after_session_step (replayed_by (record { core = k; sessions = ss })) number step.Close
+    unfolding after_session_step made
     none_closed = sym (ap made (without_none number (map open_scan ss) (none_open number ss none)))
 
     pub none_opened : (range : Span) (families : Option (List (List ℕ))) (isolated : Bool)
-        → opened_line number (length k.view.log) ≡ line_answer (replayed_by (record { core = k; sessions = ss })) (Some (line.Open number range families isolated))
-    unfolding line_answer
+        → opened_line number (length k.view.log) ≡ session_text (replayed_by (record { core = k; sessions = ss })) number (step.Open range families isolated)
+    unfolding session_text
     none_opened range families isolated =
         sym (ap (λ (o : Option OpenScan). cond (is_some o) (refusal_line (SessionOpen number)) (opened_line number (length k.view.log))) nothing)
 
     pub none_pushed : (range : Span) (families : Option (List (List ℕ))) (isolated : Bool) (s : OpenSession)
         → open_scan s ≡ opened_scan (replayed_by (record { core = k; sessions = ss })) number range families isolated
-        → replayed_by (record { core = k; sessions = ss ++ s ∷ [] }) ≡ after_line (replayed_by (record { core = k; sessions = ss })) (Some (line.Open number range families isolated))
-    unfolding after_line made
+        → replayed_by (record { core = k; sessions = ss ++ s ∷ [] }) ≡ after_session_step (replayed_by (record { core = k; sessions = ss })) number (step.Open range families isolated)
+    unfolding after_session_step made
     none_pushed range families isolated s h =
         ap made (map-append open_scan ss (s ∷ []) ∙ ap (λ x. map open_scan ss ++ x ∷ []) h
         ∙ sym (ap (λ (o : Option OpenScan). cond (is_some o) (map open_scan ss) (map open_scan ss ++ opened_scan (replayed_by (record { core = k; sessions = ss })) number range families isolated ∷ [])) nothing))
@@ -136,18 +136,18 @@ module _ (k : CoreState) (ss : List OpenSession) (number : ℕ) where
         ap made (set_scan ss i t ∙ ap (slice_set (map open_scan ss) i) h ∙ sym (with_at number i (change (open_scan s)) (map open_scan ss) placed)
         ∙ sym (ap (open_change change) found))
 
-    pub some_closed : replayed_by (record { core = k; sessions = remove ss i }) ≡ after_line (replayed_by (record { core = k; sessions = ss })) (Some (line.Close number))
-    unfolding after_line made
+    pub some_closed : replayed_by (record { core = k; sessions = remove ss i }) ≡ after_session_step (replayed_by (record { core = k; sessions = ss })) number step.Close
+    unfolding after_session_step made
     some_closed = ap made (removed_scan ss i ∙ sym (without_at number i (map open_scan ss) placed))
 
     pub some_opened : (range : Span) (families : Option (List (List ℕ))) (isolated : Bool)
-        → refusal_line (SessionOpen number) ≡ line_answer (replayed_by (record { core = k; sessions = ss })) (Some (line.Open number range families isolated))
-    unfolding line_answer
+        → refusal_line (SessionOpen number) ≡ session_text (replayed_by (record { core = k; sessions = ss })) number (step.Open range families isolated)
+    unfolding session_text
     some_opened range families isolated =
         sym (ap (λ (o : Option OpenScan). cond (is_some o) (refusal_line (SessionOpen number)) (opened_line number (length k.view.log))) found)
 
     pub some_kept : (range : Span) (families : Option (List (List ℕ))) (isolated : Bool)
-        → replayed_by (record { core = k; sessions = ss }) ≡ after_line (replayed_by (record { core = k; sessions = ss })) (Some (line.Open number range families isolated))
-    unfolding after_line made
+        → replayed_by (record { core = k; sessions = ss }) ≡ after_session_step (replayed_by (record { core = k; sessions = ss })) number (step.Open range families isolated)
+    unfolding after_session_step made
     some_kept range families isolated =
         sym (ap (λ (o : Option OpenScan). made (cond (is_some o) (map open_scan ss) (map open_scan ss ++ opened_scan (replayed_by (record { core = k; sessions = ss })) number range families isolated ∷ []))) found)

@@ -5,7 +5,7 @@ use Rattle.std.proofs.lemmas.List.{at_drop_more}
 use Rattle.tablet_model.specs.Cell.{Cell}
 use Rattle.tablet_model.specs.Sorted.{first, later}
 use Rattle.script_text.specs.Answers.{at_line, end_line, entry_line, entry_lines, found_text, scan_text}
-use Rattle.tablet_io.specs.Streams.{IsFrontTaken, IsSent}
+use Rattle.tablet_io.specs.Streams.{IsFrontTaken, IsSent, IsTaken}
 use Rattle.tablet_io.proofs.Pieces.{front_sent, sent_front, sent_then, unsent}
 use Rattle.tablet_replay.specs.Replies.{Replies, Sends}
 use Rattle.tablet_replay.specs.declared.outcome.ReplyError.{ReplyError}
@@ -41,6 +41,21 @@ last_failed bytes now text before between after r err h k =
 pub reply_failed : (bytes text : List ℕ) (before after : Option (List ℕ)) (r : Result (Unit {0}) ReplyError) → IsErr r → Sends bytes before after text r → Replies bytes before after r
 reply_failed bytes text before after (Ok x) err h = absurd (let k : false ≡ true = err in cc)
 reply_failed bytes text before after (Err e) err h = h
+
+-- what was sent until the last of it is taken
+all_taken : (bytes now : List ℕ) (before between after : Option (List ℕ)) → IsSent bytes before between now → IsTaken now between after → IsTaken bytes before after
+all_taken bytes now None between after h k = tt
+all_taken bytes now (Some t) between after h k =
+    let a = h.parted.0 in
+    let j : IsTaken now (Some (t ++ a)) after = rw h.parted.2 at k in
+    j ∙ ap Some (append_assoc t a now ∙ ap (λ l. t ++ l) (sym h.parted.1))
+
+-- a reply ends with its last piece
+pub reply_ended : (bytes now : List ℕ) (before between after : Option (List ℕ)) (r : Result (Unit {0}) ReplyError)
+    → IsSent bytes before between now → Replies now between after r → Replies bytes before after r
+reply_ended bytes now before between after (Ok x) h k = all_taken bytes now before between after h k
+reply_ended bytes now before between after (Err e) h k =
+    sent_front bytes now [] before between after (subst (IsSent bytes before between) (sym (append-nil now)) h) k
 
 -- the item of a list at a place, and those behind it
 pub items_next : {X : Type 0} (f : X → List ℕ) (xs : List X) (i : ℕ) (x : X) → i < length xs → x ≡ slice_index_or xs i x → flat_map f (drop i xs) ≡ f x ++ flat_map f (drop (i + 1) xs)

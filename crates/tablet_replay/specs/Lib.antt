@@ -1,7 +1,7 @@
 pub mod Bounds
 pub mod Refusals
 pub mod Sessions
-pub mod Steps
+pub mod Status
 pub mod Replay
 pub mod Replies
 pub mod SessionSteps

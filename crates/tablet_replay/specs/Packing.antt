@@ -14,7 +14,8 @@ use Rattle.cell_key.specs.declared.mutation.Mutation.{Mutation}
 use Rattle.script_text.specs.Lines.{script_lines}
 use Rattle.script_text.specs.Grammar.{line_of}
 use Rattle.script_text.specs.declared.line.Line.{Line}
-use Rattle.script_text.specs.declared.line.Line.TheVariants.{Mutate}
+use Rattle.script_text.specs.declared.line.Line.TheVariants.{Step}
+use Rattle.tablet_steps.specs.declared.event.Event.TheVariants.{Apply}
 use Rattle.sorted_file.specs.Image.{image_of}
 use Rattle.tablet_replay.specs.Refusals.{config_line}
 use Rattle.tablet_replay.specs.Replay.{input_config}
@@ -30,7 +31,7 @@ mutation_after h m None = h ++ m ∷ []
 
 -- the history behind a line
 unfoldable pub history_after : List IterSpec → List Mutation → Option Line → List Mutation
-history_after config h (Some (Mutate m)) = mutation_after h m (refused_by config h m)
+history_after config h (Some (Step (Apply m))) = mutation_after h m (refused_by config h m)
 history_after config h _ = h
 
 -- the history behind some lines

@@ -1,15 +1,9 @@
--- Refusals as they are written. All of this is this project's own.
+-- Refusals of configurations and images, as they are written. All of this is this project's own.
 use Rattle.std.specs.Prelude.{ℕ, List, ◌++◌, codes}
 use Rattle.std.specs.Fmt.{decimal}
-use Rattle.tablet_model.specs.Ingest as model
-use Rattle.tablet_model.specs.Ingest.{bound, duplicate, delete_here, time_here, bad_value, full_log}
-use Rattle.cell_key.specs.declared.key.Part.{Part}
-use Rattle.cell_key.specs.declared.key.Part.TheVariants as part
 use Rattle.iter_config.specs.Faults.{Fault}
 use Rattle.iter_config.specs.declared.error.Rule.{Rule}
 use Rattle.iter_config.specs.declared.error.Rule.TheVariants.{Toml, Field, Name, Priority, NoScan, NotPrefix, Order, Overlap, FullUnderVersions}
-use Rattle.script_text.specs.declared.refusal.Refusal.{Refusal}
-use Rattle.script_text.specs.declared.refusal.Refusal.TheVariants.{Bound, Duplicate, DeleteHere, Time, Value, Full}
 use Rattle.sorted_file.specs.declared.fault.Fault as image
 use Rattle.sorted_file.specs.declared.fault.ImageCause.{ImageCause}
 use Rattle.sorted_file.specs.declared.fault.ImageCause.TheVariants as cause
@@ -43,21 +37,3 @@ cause_word cause.Tail = codes "tail"
 -- why some bytes are no image, and where they cease to be one
 abbrev pub image_line : image.Fault → List ℕ
 image_line f = codes "image " ++ cause_word f.cause ++ codes " " ++ decimal f.at ++ codes "\n"
-
--- the part that a refusal names
-abbrev pub told_part : model.Part → Part
-told_part model.row_part = part.Row
-told_part model.updates_part = part.Updates
-told_part model.family_part = part.Family
-told_part model.qualifier_part = part.Qualifier
-told_part model.visibility_part = part.Visibility
-told_part model.value_part = part.Value
-
--- why a mutation stays out, as it is told: without the update's number
-abbrev pub told : model.Refusal → Refusal
-told (bound at p) = Bound (told_part p)
-told (duplicate at) = Duplicate
-told (delete_here at) = DeleteHere
-told (time_here at) = Time
-told (bad_value at) = Value
-told full_log = Full

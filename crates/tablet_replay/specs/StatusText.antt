@@ -3,7 +3,7 @@ use Rattle.std.specs.Prelude.{ℕ, List, ◌++◌, flat_map}
 use Rattle.compactor.specs.declared.job_state.JobState.{JobState}
 use Rattle.scan_session.specs.declared.piece.Piece.{Piece}
 use Rattle.script_text.specs.Answers.{at_line, entry_lines}
-use Rattle.script_text.specs.StoreAnswers.{file_line, frozen_line, job_line, log_line, memory_line}
+use Rattle.script_text.specs.StatusAnswers.{file_line, frozen_line, job_line, log_line, memory_line}
 use Rattle.tablet_core.specs.declared.status.FileCount.{FileCount}
 use Rattle.tablet_core.specs.declared.status.StoreStatus.{StoreStatus}
 

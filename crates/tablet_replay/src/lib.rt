@@ -8,9 +8,10 @@ mod refusal;
 mod reply;
 mod scan;
 mod script;
+mod sending;
 mod sessions;
 mod showing;
-mod steps;
+mod status;
 mod tablet;
 
 pub use outcome::{Outcome, ReplyError};

@@ -19,6 +19,7 @@ use iter_stack::Usage;
 use script_text::{Line, LineError, Lines, parse_line};
 use sorted_file::SortedFile;
 use std::alloc::Global;
+use tablet_core::Event;
 
 /// The file of what the iterators of compactions make of the mutations of a script.
 pub fn file_of_script(alloc: Global, config: &Config, script: &[u8]) -> Result<SortedFile, NoMemory>
@@ -54,7 +55,7 @@ fn take_line(
 {
     match parse_line(alloc, line) {
         Err(LineError::NoMemory) => Err(NoMemory),
-        Ok(Line::Mutate(mutation)) => {
+        Ok(Line::Step(Event::Apply(mutation))) => {
             history.apply(config, mutation)?;
             Ok(())
         }

@@ -1,16 +1,13 @@
-// Why a configuration, an image or a mutation is refused, as it is written.
-ghost use Rattle.std.specs.Prelude.{◌≡◌, ◌++◌, IfOk, OnOk};
-ghost use Rattle.std.specs.Fmt.{decimal};
-ghost use Rattle.ingest.specs.Refusals.{refusal_of};
+// Why a configuration or an image is refused, as it is written.
+ghost use Rattle.std.specs.Prelude.{◌≡◌, IfOk};
 ghost use Rattle.iter_config.specs.Faults.{fault};
-ghost use Rattle.tablet_replay.specs.Refusals.{cause_word, config_line, image_line, rule_word, told};
+ghost use Rattle.tablet_replay.specs.Refusals.{cause_word, config_line, image_line, rule_word};
 
 use cell_key::{ByteText, NoMemory};
-use ingest::Refused;
 use iter_config::Rule;
-use script_text::Refusal;
 use sorted_file::ImageCause;
 use std::alloc::Global;
+use tablet_steps::append_numbered;
 
 /// The line `config RULE AT`.
 pub fn config_line(alloc: Global, rule: Rule, at: u32) -> Result<ByteText, NoMemory>
@@ -19,8 +16,7 @@ pub fn config_line(alloc: Global, rule: Rule, at: u32) -> Result<ByteText, NoMem
     let mut text = ByteText::new(alloc);
     text.append(b"config ")?;
     text.append(rule_word(rule))?;
-    text.append(b" ")?;
-    append_number(alloc, &mut text, u64::from(at))?;
+    append_numbered(alloc, &mut text, b" ", u64::from(at))?;
     text.append(b"\n")?;
     Ok(text)
 }
@@ -32,17 +28,9 @@ pub fn image_line(alloc: Global, cause: ImageCause, at: u64) -> Result<ByteText,
     let mut text = ByteText::new(alloc);
     text.append(b"image ")?;
     text.append(cause_word(cause))?;
-    text.append(b" ")?;
-    append_number(alloc, &mut text, at)?;
+    append_numbered(alloc, &mut text, b" ", at)?;
     text.append(b"\n")?;
     Ok(text)
-}
-
-fn append_number(alloc: Global, text: &mut ByteText, n: u64) -> Result<(), NoMemory>
-    ensures { OnOk result (text.new ≡ text.old ++ decimal n) }
-{
-    let digits = n.to_string(alloc)?;
-    text.append(digits.as_str().as_bytes())
 }
 
 fn rule_word(rule: Rule) -> &'static [u8]
@@ -72,18 +60,5 @@ fn cause_word(cause: ImageCause) -> &'static [u8]
         ImageCause::Order => b"order",
         ImageCause::Index => b"index",
         ImageCause::Tail => b"tail",
-    }
-}
-
-/// Why a mutation stays out, as it is told: without the update's number.
-pub fn told(refused: Refused) -> Refusal
-    ensures { result ≡ told (refusal_of refused) }
-{
-    match refused {
-        Refused::Bound { part, .. } => Refusal::Bound(part),
-        Refused::Duplicate { .. } => Refusal::Duplicate,
-        Refused::DeleteHere { .. } => Refusal::DeleteHere,
-        Refused::Value { .. } => Refusal::Value,
-        Refused::Full => Refusal::Full,
     }
 }

@@ -1,19 +1,20 @@
 // Scripts, line by line.
-ghost use Rattle.std.specs.Prelude.{◌≡◌, ◌+◌, ◌<◌, ◌≤◌, ◌^◌, ◌++◌, OnOk};
+ghost use Rattle.std.specs.Prelude.{◌≡◌, ◌+◌, ◌<◌, ◌≤◌, ◌^◌, ◌++◌, false, IfOk, OnOk};
 ghost use Rattle.script_text.specs.Grammar.{line_of};
 ghost use Rattle.script_text.specs.Lines.{lines_of};
-ghost use Rattle.tablet_replay.specs.Replay.{after_line, line_answer, replayed_none, script_answers};
+ghost use Rattle.tablet_replay.specs.Replay.{after_line, asks_entries, line_answer, replayed_none, script_answers};
 ghost use Rattle.tablet_replay.specs.Replies.{HasCause, Replies, Sends};
 ghost use Rattle.tablet_replay.specs.TabletParts.{replayed_by};
 
 use crate::outcome::ReplyError;
+use crate::sending::send_last;
 use crate::tablet::Tablet;
-use cell_key::ByteText;
+use cell_key::{ByteText, NoMemory};
 use iter_config::Config;
-use script_text::{Line, LineError, Lines, Refusal, append_refusal, parse_line};
+use script_text::{Line, LineError, Lines, SessionStep, parse_line};
 use std::alloc::Global;
-use tablet_core::Event;
-use tablet_io::{Sink, send_all, send_full};
+use tablet_io::{Sink, send_full};
+use tablet_steps::LineRefusal;
 
 /// Writes the answers to the lines of a script, in pieces while it runs.
 pub fn answer_script<O: Sink>(
@@ -30,8 +31,7 @@ pub fn answer_script<O: Sink>(
     for line in Lines::new(script) {
         send_answer(alloc, &mut tablet, line, &mut text, output)?;
     }
-    send_all(&mut text, output)?;
-    Ok(())
+    send_last(&mut text, output)
 }
 
 /// Answers a line, and sends the text where it is long.
@@ -52,8 +52,19 @@ fn send_answer<O: Sink>(
     Ok(send_full(text, output)?)
 }
 
+/// What a line says, `None` where it has no reading.
+fn read_line(alloc: Global, line: &[u8]) -> Result<Option<Line>, NoMemory>
+    ensures { IfOk result (λ read. read ≡ line_of line.now) }
+{
+    match parse_line(alloc, line) {
+        Ok(line) => Ok(Some(line)),
+        Err(LineError::Syntax) => Ok(None),
+        Err(LineError::NoMemory) => Err(NoMemory),
+    }
+}
+
 /// Answers a line.
-#[tactic(auto, unfolding(crate::specs::Replay::line_answer, crate::specs::Replay::after_line))]
+#[tactic(auto, using(script_text::proofs::Counting::fetch_asks, tablet_io::proofs::Pieces::unsent), unfolding(crate::specs::Replay::line_answer, crate::specs::Replay::after_line))]
 fn answer_line<O: Sink>(
     alloc: Global,
     tablet: &mut Tablet,
@@ -67,31 +78,38 @@ fn answer_line<O: Sink>(
     ensures state { OnOk result (replayed_by tablet.new ≡ after_line (replayed_by tablet.old) (line_of line.now)) }
     ensures slow { OnOk result (tablet.new.core.view.version ≤ tablet.old.core.view.version + 1) }
 {
-    match parse_line(alloc, line) {
-        Err(LineError::NoMemory) => Err(ReplyError::NoMemory),
-        Err(LineError::Syntax) => Ok(append_refusal(alloc, text, &Refusal::Syntax)?),
-        Ok(Line::Nothing) => Ok(()),
-        Ok(Line::Mutate(mutation)) => Ok(tablet.step(alloc, &Event::Apply(mutation), text)?),
-        Ok(Line::Scan { range, families }) => tablet.scan(alloc, &range, &families, text, output),
-        Ok(
-            Line::Open {
+    match read_line(alloc, line)? {
+        Some(Line::Scan { range, families }) => tablet.scan(alloc, &range, &families, text, output),
+        Some(
+            Line::Session {
                 session,
-                range,
-                families,
-                isolated,
+                step: SessionStep::Fetch { count },
             },
-        ) => Ok(tablet.open_session(alloc, session, &range, &families, isolated, text)?),
-        Ok(Line::Fetch { session, count }) => tablet.fetch(alloc, session, count, text, output),
-        Ok(Line::Renew(session)) => Ok(tablet.renew(alloc, session, text)?),
-        Ok(Line::Drop(session)) => Ok(tablet.drop_stack(alloc, session, text)?),
-        Ok(Line::Close(session)) => Ok(tablet.close(alloc, session, text)?),
-        Ok(Line::Freeze) => Ok(tablet.step(alloc, &Event::Freeze, text)?),
-        Ok(Line::Flushed) => Ok(tablet.step(alloc, &Event::Flushed, text)?),
-        Ok(Line::Compact { job, files }) => {
-            Ok(tablet.step(alloc, &Event::Compact { job, files }, text)?)
-        }
-        Ok(Line::CompactAll { job }) => Ok(tablet.step(alloc, &Event::CompactAll { job }, text)?),
-        Ok(Line::Finish { job }) => Ok(tablet.step(alloc, &Event::Finish { job }, text)?),
-        Ok(Line::Status) => Ok(tablet.status(alloc, text)?),
+        ) => tablet.fetch(alloc, session, count, text, output),
+        read => Ok(answer_in_text(alloc, tablet, read, text)?),
+    }
+}
+
+/// Answers a line that asks for no entries.
+#[tactic(auto, unfolding(crate::specs::Replay::line_answer, crate::specs::Replay::after_line))]
+fn answer_in_text(
+    alloc: Global,
+    tablet: &mut Tablet,
+    read: Option<Line>,
+    text: &mut ByteText,
+) -> Result<(), NoMemory>
+    requires version { tablet.old.core.view.version < 2 ^ 63 }
+    requires short { asks_entries read ≡ false }
+    ensures text { OnOk result (text.new ≡ text.old ++ line_answer (replayed_by tablet.old) read) }
+    ensures state { OnOk result (replayed_by tablet.new ≡ after_line (replayed_by tablet.old) read) }
+    ensures slow { OnOk result (tablet.new.core.view.version ≤ tablet.old.core.view.version + 1) }
+{
+    match read {
+        None => LineRefusal::Syntax.append(alloc, text),
+        Some(Line::Nothing) => Ok(()),
+        Some(Line::Step(event)) => tablet.step(alloc, &event, text),
+        Some(Line::Session { session, step }) => tablet.session_step(alloc, session, &step, text),
+        Some(Line::Status) => tablet.status(alloc, text),
+        Some(Line::Scan { .. }) => unreachable!(),
     }
 }

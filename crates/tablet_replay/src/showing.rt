@@ -7,6 +7,7 @@ ghost use Rattle.tablet_replay.specs.Showing.{shown};
 
 use crate::outcome::ReplyError;
 use crate::scan::send_lines;
+use crate::sending::send_last;
 use cell_key::ByteText;
 use iter_contract::SortedSource;
 use compactor::ALL_KEYS;
@@ -14,7 +15,7 @@ use script_text::append_count;
 use sorted_file::SortedFile;
 use std::alloc::Global;
 use std::sync::Arc;
-use tablet_io::{Sink, send_all};
+use tablet_io::Sink;
 
 /// Writes the entries of a file, line by line, and how many they are.
 pub fn show_file<O: Sink>(
@@ -29,8 +30,7 @@ pub fn show_file<O: Sink>(
     let cursor = SortedFile::cursor(alloc, &file)?;
     send_cells(alloc, cursor, &mut text, output)?;
     append_count(alloc, &mut text, file.count())?;
-    send_all(&mut text, output)?;
-    Ok(())
+    send_last(&mut text, output)
 }
 
 /// Sends the lines of all entries of a source.

@@ -2,7 +2,7 @@ ghost use Rattle.std.specs.Prelude.{◌≡◌, ◌+◌, ◌<◌, ◌≤◌, ◌^
 ghost use Rattle.std.specs.Arc.{arc_value};
 ghost use Rattle.tablet_model.specs.Places.{Start};
 ghost use Rattle.scan_session.specs.Takes.{mode_of};
-ghost use Rattle.tablet_core.specs.Said.{event_of};
+ghost use Rattle.tablet_steps.specs.ModelSteps.{event_of};
 ghost use Rattle.tablet_core.specs.State.{empty_core};
 ghost use Rattle.tablet_replay.specs.Replay.{after_step, step_answer_text};
 ghost use Rattle.tablet_replay.specs.Replies.{HasCause, Sends};
@@ -11,18 +11,17 @@ ghost use Rattle.tablet_replay.specs.TabletParts.{replayed_by};
 use crate::outcome::ReplyError;
 use crate::scan::{send_fetched, send_found};
 use crate::sessions::{OpenSession, Sessions};
-use crate::steps::{append_answer, append_status};
+use crate::status::append_status;
 use cell_key::{ByteText, Families, NoMemory, RangeBuf};
 use iter_config::Config;
 use scan_session::Session;
-use script_text::{
-    Refusal, append_closed, append_dropped, append_opened, append_refusal, append_renewed,
-};
+use script_text::{SessionStep, append_closed, append_dropped, append_opened, append_renewed};
 use std::alloc::Global;
 use std::marker::Model;
 use std::sync::Arc;
 use tablet_core::{Core, Event};
 use tablet_io::Sink;
+use tablet_steps::LineRefusal;
 use tablet_view::View;
 
 /// What a script has made: the store, and the sessions that are open on its views.
@@ -70,12 +69,11 @@ fn session_on(
 }
 
 impl Tablet {
-    ghost use Rattle.std.specs.Prelude.{length};
-    ghost use Rattle.script_text.specs.declared.line.Line.TheVariants as line;
+    ghost use Rattle.std.specs.Prelude.{false, length};
+    ghost use Rattle.script_text.specs.declared.line.SessionStep.TheVariants as step;
     ghost use Rattle.script_text.specs.Answers.{scan_text};
-    ghost use Rattle.std.specs.Prelude.{Some};
-    ghost use Rattle.tablet_replay.specs.Replay.{after_line, line_answer};
-    ghost use Rattle.tablet_replay.specs.Steps.{status_text};
+    ghost use Rattle.tablet_replay.specs.Replay.{after_session_step, is_fetch, session_text};
+    ghost use Rattle.tablet_replay.specs.Status.{status_text};
     ghost use Rattle.tablet_replay.specs.Sessions.{scanned};
 
     /// Nothing yet, under a configuration.
@@ -102,7 +100,7 @@ impl Tablet {
         ensures slow { OnOk result (self.new.core.view.version ≤ self.old.core.view.version + 1) }
     {
         let answer = self.core.step(alloc, event);
-        append_answer(alloc, text, answer)
+        answer.append(alloc, text)
     }
 
     /// Appends the status of the store.
@@ -131,8 +129,34 @@ impl Tablet {
         send_found(alloc, session.n(), &mut rest, text, output)
     }
 
+    /// Takes a step of a session that asks for no entries, and appends its answer.
+    pub fn session_step(
+        &mut self,
+        alloc: Global,
+        number: u32,
+        step: &SessionStep,
+        text: &mut ByteText,
+    ) -> Result<(), NoMemory>
+        requires { is_fetch step.now ≡ false }
+        ensures text { OnOk result (text.new ≡ text.old ++ session_text (replayed_by self.old) number step.now) }
+        ensures state { OnOk result (replayed_by self.new ≡ after_session_step (replayed_by self.old) number step.now) }
+        ensures version { OnOk result (self.new.core.view.version ≡ self.old.core.view.version) }
+    {
+        match step {
+            SessionStep::Open {
+                range,
+                families,
+                isolated,
+            } => self.open_session(alloc, number, range, families, *isolated, text),
+            SessionStep::Renew => self.renew(alloc, number, text),
+            SessionStep::Drop => self.drop_stack(alloc, number, text),
+            SessionStep::Close => self.close(alloc, number, text),
+            SessionStep::Fetch { .. } => unreachable!(),
+        }
+    }
+
     /// Opens a session on the present view, unless one of this number is open.
-    pub fn open_session(
+    fn open_session(
         &mut self,
         alloc: Global,
         number: u32,
@@ -141,12 +165,12 @@ impl Tablet {
         isolated: bool,
         text: &mut ByteText,
     ) -> Result<(), NoMemory>
-        ensures text { OnOk result (text.new ≡ text.old ++ line_answer (replayed_by self.old) (Some (line.Open number range.now families.now isolated))) }
-        ensures state { OnOk result (replayed_by self.new ≡ after_line (replayed_by self.old) (Some (line.Open number range.now families.now isolated))) }
+        ensures text { OnOk result (text.new ≡ text.old ++ session_text (replayed_by self.old) number (step.Open range.now families.now isolated)) }
+        ensures state { OnOk result (replayed_by self.new ≡ after_session_step (replayed_by self.old) number (step.Open range.now families.now isolated)) }
         ensures version { OnOk result (self.new.core.view.version ≡ self.old.core.view.version) }
     {
         match self.sessions.place_of(number) {
-            Some(_) => append_refusal(alloc, text, &Refusal::SessionOpen(number)),
+            Some(_) => LineRefusal::SessionOpen(number).append(alloc, text),
             None => {
                 let session = session_on(&self.core, alloc, range, families, isolated)?;
                 let n = session.n();
@@ -166,9 +190,9 @@ impl Tablet {
         output: &mut O,
     ) -> Result<(), ReplyError>
         requires { 1 ≤ count }
-        ensures bytes { Sends (text.old ++ line_answer (replayed_by self.old) (Some (line.Fetch number count))) (O.taken output.old) (O.taken output.new) text.new result }
+        ensures bytes { Sends (text.old ++ session_text (replayed_by self.old) number (step.Fetch count)) (O.taken output.old) (O.taken output.new) text.new result }
         ensures cause { HasCause (O.faults output.old) (O.faults output.new) result }
-        ensures state { OnOk result (replayed_by self.new ≡ after_line (replayed_by self.old) (Some (line.Fetch number count))) }
+        ensures state { OnOk result (replayed_by self.new ≡ after_session_step (replayed_by self.old) number (step.Fetch count)) }
         ensures version { OnOk result (self.new.core.view.version ≡ self.old.core.view.version) }
     {
         match self.sessions.place_of(number) {
@@ -176,14 +200,14 @@ impl Tablet {
                 let fetched = self.sessions.fetch_at(alloc, i, count)?;
                 send_fetched(alloc, &fetched, text, output)
             }
-            None => Ok(append_refusal(alloc, text, &Refusal::NoSession(number))?),
+            None => Ok(LineRefusal::NoSession(number).append(alloc, text)?),
         }
     }
 
     /// Moves a session to the present view.
-    pub fn renew(&mut self, alloc: Global, number: u32, text: &mut ByteText) -> Result<(), NoMemory>
-        ensures text { OnOk result (text.new ≡ text.old ++ line_answer (replayed_by self.old) (Some (line.Renew number))) }
-        ensures state { OnOk result (replayed_by self.new ≡ after_line (replayed_by self.old) (Some (line.Renew number))) }
+    fn renew(&mut self, alloc: Global, number: u32, text: &mut ByteText) -> Result<(), NoMemory>
+        ensures text { OnOk result (text.new ≡ text.old ++ session_text (replayed_by self.old) number step.Renew) }
+        ensures state { OnOk result (replayed_by self.new ≡ after_session_step (replayed_by self.old) number step.Renew) }
         ensures version { OnOk result (self.new.core.view.version ≡ self.old.core.view.version) }
     {
         match self.sessions.place_of(number) {
@@ -193,18 +217,18 @@ impl Tablet {
                 self.sessions.renew_at(i, view);
                 append_renewed(alloc, text, number, n)
             }
-            None => append_refusal(alloc, text, &Refusal::NoSession(number)),
+            None => LineRefusal::NoSession(number).append(alloc, text),
         }
     }
 
     /// Tears the stack of a session down.
-    pub fn drop_stack(
+    fn drop_stack(
         &mut self,
         alloc: Global,
         number: u32,
         text: &mut ByteText,
     ) -> Result<(), NoMemory>
-        ensures text { OnOk result (text.new ≡ text.old ++ line_answer (replayed_by self.old) (Some (line.Drop number))) }
+        ensures text { OnOk result (text.new ≡ text.old ++ session_text (replayed_by self.old) number step.Drop) }
         ensures same { self.new ≡ self.old }
     {
         match self.sessions.place_of(number) {
@@ -212,14 +236,14 @@ impl Tablet {
                 self.sessions.drop_stack_at(i);
                 append_dropped(alloc, text, number)
             }
-            None => append_refusal(alloc, text, &Refusal::NoSession(number)),
+            None => LineRefusal::NoSession(number).append(alloc, text),
         }
     }
 
     /// Ends a session.
-    pub fn close(&mut self, alloc: Global, number: u32, text: &mut ByteText) -> Result<(), NoMemory>
-        ensures text { OnOk result (text.new ≡ text.old ++ line_answer (replayed_by self.old) (Some (line.Close number))) }
-        ensures state { OnOk result (replayed_by self.new ≡ after_line (replayed_by self.old) (Some (line.Close number))) }
+    fn close(&mut self, alloc: Global, number: u32, text: &mut ByteText) -> Result<(), NoMemory>
+        ensures text { OnOk result (text.new ≡ text.old ++ session_text (replayed_by self.old) number step.Close) }
+        ensures state { OnOk result (replayed_by self.new ≡ after_session_step (replayed_by self.old) number step.Close) }
         ensures version { OnOk result (self.new.core.view.version ≡ self.old.core.view.version) }
     {
         match self.sessions.place_of(number) {
@@ -227,7 +251,7 @@ impl Tablet {
                 self.sessions.remove_at(i);
                 append_closed(alloc, text, number)
             }
-            None => append_refusal(alloc, text, &Refusal::NoSession(number)),
+            None => LineRefusal::NoSession(number).append(alloc, text),
         }
     }
 }

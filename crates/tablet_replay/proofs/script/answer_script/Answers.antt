@@ -6,7 +6,7 @@ use Rattle.tablet_io.proofs.Pieces.{unsent}
 use Rattle.tablet_replay.specs.Replay.{after_line, line_answer, replayed_none, script_answers}
 use Rattle.tablet_replay.specs.TabletParts.{replayed_by}
 use Rattle.tablet_replay.proofs.Scripts.{begins_empty, lines_few}
-use Rattle.tablet_replay.proofs.Sends.{last_failed, next_failed, next_sent, reply_failed}
+use Rattle.tablet_replay.proofs.Sends.{next_failed, next_sent, reply_ended, reply_failed}
 use Rattle.tablet_replay.proofs.script.answer_script.Goals as goal
 
 pub loop-line-init : goal.loop-line-init
@@ -54,13 +54,11 @@ returns-in_err-send_answer-clause-text g c =
     (subst (λ lines. IsSent whole (sink.taken c.args.output.now) (sink.taken c.loop-line.output) (c.loop-line.text ++ script_answers t lines)) c.in-Some.ensures.steps c.loop-line.invariant.sent)
     c.in_err-send_answer.ensures.bytes)
 
-pub returns-in_err-send_all-clause-text : goal.returns-in_err-send_all-clause-text
-returns-in_err-send_all-clause-text g c =
+pub returns-clause-text : goal.returns-clause-text
+returns-clause-text g c =
     let sink = g.O.Sink in
     let whole = script_answers (replayed_none c.args.config) (lines_of c.args.script.now) in
     let t = replayed_by c.loop-line.tablet in
-    let r = c.from_residual-in_err-send_all in
-    reply_failed whole [] (sink.taken c.args.output.now) (sink.taken c.send_all.new.sink) r.result r.ensures.0
-    (last_failed whole c.loop-line.text [] (sink.taken c.args.output.now) (sink.taken c.loop-line.output) (sink.taken c.send_all.new.sink) r.result r.ensures.0
+    reply_ended whole c.loop-line.text (sink.taken c.args.output.now) (sink.taken c.loop-line.output) (sink.taken c.send_last.new.output) c.send_last.result
     (subst (IsSent whole (sink.taken c.args.output.now) (sink.taken c.loop-line.output)) (ap (λ lines. c.loop-line.text ++ script_answers t lines) c.in-None.ensures.steps.0 ∙ append-nil c.loop-line.text) c.loop-line.invariant.sent)
-    c.in_err-send_all.ensures.err)
+    c.send_last.ensures.text

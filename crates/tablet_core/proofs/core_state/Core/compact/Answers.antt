@@ -1,14 +1,14 @@
 use Rattle.std.proofs.Common.{◌≡◌, Some, sym, ap, subst, ◌∙◌}
 use Rattle.tablet_model.specs.Steps as model
 use Rattle.tablet_model.specs.Steps.{StepAnswer, find_job, first_missing, first_taken, ids_of, is_empty, takes_all}
-use Rattle.tablet_core.specs.Said.{said}
+use Rattle.tablet_steps.specs.ModelSteps.{model_refusal_of}
 use Rattle.tablet_core.specs.State.{Answers, CoreState}
 use Rattle.tablet_core.proofs.Moves.{made, unmade}
 use Rattle.tablet_core.proofs.Starts.{start_made}
 use Rattle.tablet_core.proofs.core_state.Core.compact.Goals as goal
 
 pub returns-in-Some : goal.returns-in-Some
-returns-in-Some c = unmade (model.compact c.args.job c.args.files.now) c.args.self.now (said c.in-Some.refusal) c.in-Some.ensures
+returns-in-Some c = unmade (model.compact c.args.job c.args.files.now) c.args.self.now (Some (model_refusal_of c.in-Some.refusal)) c.in-Some.ensures
 
 pub returns-in-Ok : goal.returns-in-Ok
 returns-in-Ok c =

@@ -1,18 +1,18 @@
-use Rattle.std.proofs.Common.{◌≡◌, true, false, is_some, None, sym, ap, ◌∙◌}
+use Rattle.std.proofs.Common.{Some, ◌≡◌, true, false, is_some, None, sym, ap, ◌∙◌}
 use Rattle.tablet_model.specs.Steps as model
 use Rattle.tablet_model.specs.Steps.{find_job}
 use Rattle.tablet_core.specs.Jobs.{flush_of}
-use Rattle.tablet_core.specs.Said.{said}
+use Rattle.tablet_steps.specs.ModelSteps.{model_refusal_of}
 use Rattle.tablet_core.proofs.Flushes.{flush_frozen, job_flushes}
 use Rattle.tablet_core.proofs.Finishes.{none_found}
 use Rattle.tablet_core.proofs.Moves.{unmade}
 use Rattle.tablet_core.proofs.core_state.Core.flush.Goals as goal
 
 pub returns-in-Some : goal.returns-in-Some
-returns-in-Some c = unmade model.flush c.args.self.now (said c.in-Some.refusal) c.in-Some.ensures
+returns-in-Some c = unmade model.flush c.args.self.now (Some (model_refusal_of c.in-Some.refusal)) c.in-Some.ensures
 
-pub install_flushed-requires-clause-made : goal.install_flushed-requires-clause-made
-install_flushed-requires-clause-made c = job_flushes c.args.self.now.view c.in-Ok-Some.done c.args.self.now.view.frozen (sym c.in-Ok-Some.field-0-is ∙ c.in-Ok-Some.ensures)
+pub install_flush-requires-clause-made : goal.install_flush-requires-clause-made
+install_flush-requires-clause-made c = job_flushes c.args.self.now.view c.in-Ok-Some.done c.args.self.now.view.frozen (sym c.in-Ok-Some.field-0-is ∙ c.in-Ok-Some.ensures)
 
 pub returns-in-Ok-None : goal.returns-in-Ok-None
 returns-in-Ok-None c =

@@ -2,14 +2,14 @@ use Rattle.std.proofs.Common.{Some, ap, length, subst, sym, ◌≡◌, ◌∙◌
 use Rattle.std.specs.Arc.{arc_value}
 use Rattle.tablet_model.specs.Steps as model
 use Rattle.tablet_view.specs.Snapshot.{frozen}
-use Rattle.tablet_core.specs.Said.{said}
+use Rattle.tablet_steps.specs.ModelSteps.{model_refusal_of}
 use Rattle.tablet_core.specs.State.{Answers, CoreState, IsStandingCore}
 use Rattle.tablet_core.proofs.Freezes.{freeze_free, freeze_made, freeze_stands}
 use Rattle.tablet_core.proofs.Moves.{made, unmade}
 use Rattle.tablet_core.proofs.core_state.Core.freeze.Goals as goal
 
 pub returns-in-Some : goal.returns-in-Some
-returns-in-Some c = unmade model.freeze c.args.self.now (said c.in-Some.refusal) c.in-Some.ensures
+returns-in-Some c = unmade model.freeze c.args.self.now (Some (model_refusal_of c.in-Some.refusal)) c.in-Some.ensures
 
 pub frozen-requires-clause-free : goal.frozen-requires-clause-free
 frozen-requires-clause-free c = freeze_free c.args.self.now c.in_default.ensures

@@ -1,5 +1,5 @@
 use Rattle.std.proofs.Common.{◌≡◌, ◌++◌, OnOk, subst}
-use Rattle.tablet_replay.specs.Steps.{status_text}
+use Rattle.tablet_replay.specs.Status.{status_text}
 use Rattle.tablet_replay.specs.TabletParts.{replayed_by}
 use Rattle.tablet_replay.proofs.Replaying.{status_is}
 use Rattle.tablet_replay.proofs.tablet.Tablet.status.Goals as goal

@@ -1,6 +1,0 @@
-use Rattle.std.proofs.Common.{◌≡◌, ◌++◌, take}
-use Rattle.tablet_replay.specs.StatusText.{count_lines}
-use Rattle.tablet_replay.proofs.steps.append_files.Given as goal
-
-abbrev pub invariant-loop-file : goal.invariant-loop-file
-invariant-loop-file l = l.text ≡ l.fn.text ++ count_lines (take l.file-index l.files)

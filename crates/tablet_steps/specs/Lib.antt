@@ -1,0 +1,2 @@
+pub mod ModelSteps
+pub mod Texts
