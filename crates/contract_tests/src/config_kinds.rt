@@ -1,3 +1,4 @@
+//! The kinds of iterators, and their fields.
 use crate::config_texts::{
     ALL, FAMILY, FULL, MINC, NEWEST, SCAN, SUM, SUM_X, Table, append_digits, iterators,
 };

@@ -1,3 +1,4 @@
+//! The rules of configurations.
 use crate::config_texts::{
     ALL, FAMILY, FULL, MAJC, MINC, NEWEST, SCAN, SUM, SUM_X, Table, Versions, append_numbered,
     append_versions, iterators, versions,

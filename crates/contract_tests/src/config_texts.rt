@@ -1,3 +1,4 @@
+//! What the tests of configurations share.
 use cell_key::{ByteText, NoMemory};
 use number_values::{Encoding, NumberText};
 use std::alloc::Global;

@@ -1,3 +1,4 @@
+//! Which mutations come in.
 use cell_key::{ByteText, Mutation, NoMemory, Part, Update, Updates};
 use ingest::{Refused, check};
 use iter_config::{ConfigError, read_config};

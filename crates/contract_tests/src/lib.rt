@@ -1,4 +1,4 @@
-// Sources over lists, configurations, the checks of mutations and the texts of scripts, in examples.
+//! Sources over lists, configurations, the checks of mutations and the texts of scripts, in examples.
 #![tactic(auto)]
 
 #[cfg(test)]

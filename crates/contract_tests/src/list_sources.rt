@@ -1,3 +1,4 @@
+//! A source over a list.
 ghost use Rattle.std.specs.Prelude.{IfOk, codes, []};
 ghost use Rattle.tablet_model.specs.Order.{above};
 ghost use Rattle.tablet_model.specs.Sorted.{Ascends};

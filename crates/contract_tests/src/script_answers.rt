@@ -1,3 +1,4 @@
+//! The lines of answers.
 use cell_key::{ByteText, EntryRef, FileIds, KeyRef, NoMemory, Part};
 use ingest::Refused;
 use script_text::{

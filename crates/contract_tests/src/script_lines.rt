@@ -1,3 +1,4 @@
+//! The lines of a script.
 use cell_key::{Mutation, Update};
 use script_text::{Line, LineError, Lines, SessionStep, parse_line, split_input};
 use std::alloc::Global;

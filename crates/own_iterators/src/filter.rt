@@ -1,3 +1,4 @@
+//! A filter of one's own.
 ghost use Rattle.std.specs.Prelude.{◌≡◌};
 ghost use Rattle.own_iterators.specs.Small.{is_small, small_passes};
 

@@ -1,4 +1,4 @@
-// A filter and a combiner of one's own, to begin yours from: docs/EXTENDING.md goes through them.
+//! A filter and a combiner of one's own, to begin yours from: docs/EXTENDING.md goes through them.
 #![tactic(auto)]
 
 mod filter;

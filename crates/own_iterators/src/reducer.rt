@@ -1,3 +1,4 @@
+//! A reducer of one's own.
 ghost use Rattle.std.specs.Prelude.{◌≡◌, ◌||◌, true, None};
 ghost use Rattle.own_iterators.specs.Flags.{flag_reduction, flag_joined, is_set};
 

@@ -1,5 +1,5 @@
-// Entries as they are written, and the lines round them.
-// Each function that appends may leave a part of its line in the text where memory is wanting.
+//! Entries as they are written, and the lines round them.
+//! Each function that appends may leave a part of its line in the text where memory is wanting.
 ghost use Rattle.std.specs.Prelude.{◌≡◌, ◌++◌, IfOk, OnOk};
 ghost use Rattle.std.specs.Fmt.{signed_decimal};
 ghost use Rattle.cell_key.specs.Views.{cell_of};

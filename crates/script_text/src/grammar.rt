@@ -1,4 +1,4 @@
-// Lines by their first word.
+//! Lines by their first word.
 ghost use Rattle.std.specs.Prelude.{◌≡◌};
 ghost use Rattle.script_text.specs.Grammar.{is_comment, line_by_word, line_of};
 ghost use Rattle.script_text.specs.Reading.{Gives};

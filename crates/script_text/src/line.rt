@@ -1,3 +1,4 @@
+//! What a line says.
 use cell_key::{Families, NoMemory, RangeBuf};
 use tablet_steps::Event;
 use thiserror::Error;

@@ -1,3 +1,4 @@
+//! That lines lose no byte of a text.
 ghost use Rattle.std.specs.Prelude.{◌≡◌, ℕ, List};
 ghost use Rattle.std.specs.List.{concat};
 ghost use Rattle.script_text.specs.Lines.{raw_lines};

@@ -1,3 +1,4 @@
+//! A text, line by line.
 ghost use Rattle.std.specs.Prelude.{◌≡◌, ◌<◌, ◌∷◌, ◌++◌, length};
 ghost use Rattle.std.specs.Io.BufRead.{strip_last};
 ghost use Rattle.script_text.specs.Lines.{config_bytes, content, is_separator, lines_of, raw_lines, script_lines};

@@ -1,4 +1,4 @@
-// Numbers, and the names of sessions, jobs and files.
+//! Numbers, and the names of sessions, jobs and files.
 ghost use Rattle.std.specs.Prelude.{◌≡◌, ◌≤◌, [], Some, IfSome, length, true};
 ghost use Rattle.std.specs.Char.{is_ascii_digit};
 ghost use Rattle.std.specs.List.{list_all};

@@ -1,3 +1,4 @@
+//! Parts of a line, up to where each ends.
 ghost use Rattle.std.specs.Prelude.{◌≡◌};
 ghost use Rattle.script_text.specs.Reading.{Gives};
 ghost use Rattle.script_text.specs.Words.{split_once, text_of};

@@ -1,4 +1,4 @@
-// The line of a scan.
+//! The line of a scan.
 ghost use Rattle.script_text.specs.Grammar.{scan_of};
 ghost use Rattle.script_text.specs.Reading.{Gives};
 ghost use Rattle.script_text.specs.Words.{words_of};

@@ -1,4 +1,4 @@
-// Which keys and families a scan takes.
+//! Which keys and families a scan takes.
 ghost use Rattle.std.specs.Prelude.{◌≡◌, ◌≤◌, ◌<◌, ◌∷◌, [], length, MatchOption, IfOk, IfSome, Some, option_map};
 ghost use Rattle.std.specs.List.{slice_split};
 ghost use Rattle.std.specs.Str.{bytes_eq};

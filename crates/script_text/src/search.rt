@@ -1,3 +1,4 @@
+//! Where a byte stands.
 ghost use Rattle.std.specs.Prelude.{◌≡◌, position};
 ghost use Rattle.memchr.specs.Find.{is_byte};
 

@@ -1,4 +1,4 @@
-// The answers to the lines of sessions.
+//! The answers to the lines of sessions.
 ghost use Rattle.std.specs.Prelude.{◌≡◌, ◌++◌, OnOk};
 ghost use Rattle.script_text.specs.SessionAnswers.{closed_line, dropped_line, opened_line, renewed_line, rest_line};
 

@@ -1,4 +1,4 @@
-// Lines that ask a session.
+//! Lines that ask a session.
 ghost use Rattle.std.specs.Prelude.{◌≡◌};
 ghost use Rattle.script_text.specs.Grammar.{fetch_of, isolated_of, open_of, session_step_of};
 ghost use Rattle.script_text.specs.Reading.{Gives};

@@ -1,4 +1,4 @@
-// The lines of a store's status.
+//! The lines of a store's status.
 ghost use Rattle.std.specs.Prelude.{◌≡◌, ◌++◌, OnOk};
 ghost use Rattle.script_text.specs.StatusAnswers.{file_line, file_words, frozen_line, job_line, log_line, memory_line};
 

@@ -1,4 +1,4 @@
-// Lines that ask for a step of the store.
+//! Lines that ask for a step of the store.
 ghost use Rattle.std.specs.Prelude.{◌≡◌};
 ghost use Rattle.script_text.specs.Grammar.{compact_all_of, compact_of, finish_of, mutation_of, only_job};
 ghost use Rattle.script_text.specs.Reading.{Gives};

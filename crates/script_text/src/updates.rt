@@ -1,3 +1,4 @@
+//! The updates of a mutation.
 ghost use Rattle.std.specs.Prelude.{◌≡◌};
 ghost use Rattle.script_text.specs.Grammar.{delete_of, put_of, update_of, updates_of};
 ghost use Rattle.script_text.specs.Reading.{Gives};

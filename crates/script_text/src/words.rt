@@ -1,3 +1,4 @@
+//! The words of a line.
 ghost use Rattle.std.specs.Prelude.{◌≡◌, ◌<◌, [], ◌∷◌, length, not, position, MatchOption, IfSome, Some};
 ghost use Rattle.script_text.specs.Grammar.{ended, only_word};
 ghost use Rattle.script_text.specs.Reading.{Gives};

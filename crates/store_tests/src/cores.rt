@@ -1,3 +1,4 @@
+//! Steps of a store.
 ghost use Rattle.std.specs.Prelude.{◌≡◌, option_map, IfOk};
 ghost use Rattle.tablet_model.specs.Steps.{find_job};
 ghost use Rattle.tablet_core.specs.Jobs.{flush_of, major_of};
@@ -5,9 +6,8 @@ ghost use Rattle.tablet_core.specs.Jobs.{flush_of, major_of};
 use crate::fixtures::{Cell, config, has, mutation};
 use crate::views::{scan_gives, source_has};
 use cell_key::{Families, FileIds, NoMemory};
-use compactor::JobState;
+use compactor::{DoneJob, JobState};
 use iter_config::ConfigError;
-use compactor::DoneJob;
 use std::alloc::Global;
 use std::test::Fail;
 use tablet_core::{Answer, Core, Event, FileCount, StepRefusal, StoreStatus};

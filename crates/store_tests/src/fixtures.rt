@@ -1,9 +1,10 @@
+//! What the tests of these floors share.
 ghost use Rattle.std.specs.Prelude.{◌≡◌, ◌<◌, true, length};
 
 use cell_key::{ByteText, EntryRef, Mutation, NoMemory, Update, Updates};
+use compactor::ALL_KEYS;
 use iter_config::{Config, ConfigError, read_config};
 use iter_contract::SortedSource;
-use compactor::ALL_KEYS;
 use std::alloc::Global;
 use std::sync::Arc;
 

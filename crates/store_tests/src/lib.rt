@@ -1,5 +1,5 @@
-// Shows that views, cores and sessions answer what their mutations give, step by step and fetch by fetch, where there is
-// memory.
+//! Shows that views, cores and sessions answer what their mutations give, step by step and fetch by fetch, where there is
+//! memory.
 #![tactic(auto)]
 
 #[cfg(test)]

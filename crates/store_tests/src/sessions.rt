@@ -1,3 +1,4 @@
+//! Sessions.
 ghost use Rattle.std.specs.Prelude.{◌≡◌, true, Some};
 ghost use Rattle.std.specs.Arc.{arc_value};
 ghost use Rattle.tablet_view.specs.Extending.{Extends};

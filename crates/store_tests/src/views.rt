@@ -1,8 +1,9 @@
+//! Snapshots.
 use crate::fixtures::{Cell, Change, config, has, has_left, mutation};
 use cell_key::{ByteText, Families, Names, NoMemory};
+use compactor::ALL_KEYS;
 use ingest::Refused;
 use iter_config::ConfigError;
-use compactor::ALL_KEYS;
 use scan_session::Session;
 use std::alloc::Global;
 use std::sync::Arc;

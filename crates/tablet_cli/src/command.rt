@@ -1,3 +1,4 @@
+//! What each command does.
 ghost use Rattle.std.specs.Prelude.{◌≡◌};
 ghost use Rattle.tablet_cli.specs.Words.{command_of};
 ghost use Rattle.tablet_cli.specs.Outcome.{IsComplete, IsRunComplete, Performs, Runs, port};

@@ -1,3 +1,4 @@
+//! The words of commands.
 ghost use Rattle.std.specs.Prelude.{◌≡◌};
 ghost use Rattle.tablet_cli.specs.Words.{command_of, command_of_word};
 

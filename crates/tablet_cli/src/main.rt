@@ -1,4 +1,4 @@
-// The program: the words of the command line, what each command writes, and the status of a run.
+//! The program: the words of the command line, what each command writes, and the status of a run.
 #![tactic(auto)]
 
 mod command;

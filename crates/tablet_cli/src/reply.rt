@@ -1,4 +1,4 @@
-// What the commands write for an input, and how they end.
+//! What the commands write for an input, and how they end.
 ghost use Rattle.std.specs.Prelude.{◌≡◌, IfOk};
 ghost use Rattle.tablet_replay.specs.Replies.{HasCause, Replies, is_refusal};
 ghost use Rattle.tablet_cli.specs.Outcome.{command_text, end_of, refuses};

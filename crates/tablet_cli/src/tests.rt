@@ -1,3 +1,4 @@
+//! Ends and statuses, over sources and sinks that fail.
 ghost use Rattle.std.specs.Prelude.{◌≤◌};
 
 use crate::command::{MAX_INPUT, replay, run};

@@ -1,3 +1,4 @@
+//! That what a job makes may be put in place later.
 ghost use Rattle.tablet_core.specs.CoreLaws.{FrozenPartsStay, JobsStay};
 
 /// A law: what a job makes stays the same over any step that leaves the job running, and a frozen part stays until it is written.

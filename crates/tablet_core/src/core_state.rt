@@ -1,3 +1,4 @@
+//! A tablet's view and its running jobs.
 ghost use Rattle.std.specs.Prelude.{◌≡◌, ◌<◌, ◌^◌, IfOk};
 ghost use Rattle.std.specs.Arc.{arc_value};
 ghost use Rattle.tablet_view.specs.Snapshot.{IsStanding};

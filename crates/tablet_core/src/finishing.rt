@@ -1,4 +1,4 @@
-// A compaction is made, and its file stands in the place of its files.
+//! A compaction is made, and its file stands in the place of its files.
 ghost use Rattle.std.specs.Prelude.{◌≡◌, ◌<◌, ◌^◌, cond, true, is_some, map, option_map, IfOk, IfSome, OnErr, MatchResult};
 ghost use Rattle.std.specs.Arc.{arc_value};
 ghost use Rattle.tablet_model.specs.Steps as model;

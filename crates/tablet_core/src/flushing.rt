@@ -1,4 +1,4 @@
-// The frozen part becomes a file.
+//! The frozen part becomes a file.
 ghost use Rattle.std.specs.Prelude.{◌≡◌, ◌<◌, ◌^◌, [], None, option_map, unwrap_or, is_some, true, IfOk, IfSome, IsSome, OnErr};
 ghost use Rattle.std.specs.Arc.{arc_value};
 ghost use Rattle.tablet_model.specs.Compactions.{minor_compaction};

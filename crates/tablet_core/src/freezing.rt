@@ -1,4 +1,4 @@
-// The memory is frozen.
+//! The memory is frozen.
 ghost use Rattle.std.specs.Prelude.{◌≡◌, ◌<◌, ◌^◌, None, IfOk};
 ghost use Rattle.std.specs.Arc.{arc_value};
 ghost use Rattle.tablet_model.specs.Steps as model;

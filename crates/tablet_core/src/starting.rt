@@ -1,4 +1,4 @@
-// A compaction starts.
+//! A compaction starts.
 ghost use Rattle.std.specs.Prelude.{◌≡◌, ◌<◌, ◌^◌, ◌∷◌, [], ◌++◌, None, is_ok, option_map, if◌then◌else◌, IfOk};
 ghost use Rattle.tablet_model.specs.Steps as model;
 ghost use Rattle.tablet_model.specs.Steps.{first_missing, first_taken, ids_of, in_job, no_such_file, refuse, takes_all};

@@ -1,3 +1,4 @@
+//! What a store has, as it is told.
 ghost use Rattle.std.specs.Prelude.{◌≡◌, map, IfOk};
 ghost use Rattle.tablet_core.specs.Status.{IsStatusOf, count_of};
 

@@ -1,4 +1,4 @@
-// Each step by its name.
+//! Each step by its name.
 ghost use Rattle.std.specs.Prelude.{◌<◌, ◌^◌};
 ghost use Rattle.tablet_steps.specs.ModelSteps.{event_of, model_answer_of};
 ghost use Rattle.tablet_core.specs.State.{Answers};

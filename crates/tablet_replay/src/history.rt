@@ -1,3 +1,4 @@
+//! The mutations that were accepted.
 ghost use Rattle.std.specs.Prelude.{◌≡◌, ◌<◌, ◌^◌, ◌++◌, [], ◌∷◌, length, map, option_map, pos, IfOk, OnOk};
 ghost use Rattle.tablet_model.specs.Bounds.{KeyBounds};
 ghost use Rattle.tablet_model.specs.Order.{above};

@@ -1,3 +1,4 @@
+//! How an input was answered.
 use cell_key::NoMemory;
 use std::alloc::AllocFailed;
 use tablet_io::WriteFault;

@@ -1,4 +1,4 @@
-// The image that `pack` writes.
+//! The image that `pack` writes.
 ghost use Rattle.std.specs.Prelude.{◌≡◌, [], map, IfOk, OnOk};
 ghost use Rattle.std.specs.List.{list_any};
 ghost use Rattle.tablet_model.specs.Ingest.{IsHistory};
@@ -12,9 +12,9 @@ ghost use Rattle.tablet_replay.specs.Packing.{history_after, history_behind, is_
 use crate::history::History;
 use crate::scan::source_over;
 use cell_key::NoMemory;
+use compactor::compact;
 use delete_iter::live_iter;
 use iter_config::{Config, IterSpec};
-use compactor::compact;
 use iter_stack::Usage;
 use script_text::{Line, LineError, Lines, parse_line};
 use sorted_file::SortedFile;

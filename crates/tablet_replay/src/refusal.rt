@@ -1,4 +1,4 @@
-// Why a configuration or an image is refused, as it is written.
+//! Why a configuration or an image is refused, as it is written.
 ghost use Rattle.std.specs.Prelude.{◌≡◌, IfOk};
 ghost use Rattle.iter_config.specs.Faults.{fault};
 ghost use Rattle.tablet_replay.specs.Refusals.{cause_word, config_line, image_line, rule_word};

@@ -1,4 +1,4 @@
-// What the commands write for an input.
+//! What the commands write for an input.
 ghost use Rattle.std.specs.Prelude.{◌≡◌, IfOk};
 ghost use Rattle.tablet_replay.specs.Packing.{pack_text};
 ghost use Rattle.tablet_replay.specs.Replay.{is_refused, replay_text};

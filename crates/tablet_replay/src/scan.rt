@@ -1,4 +1,4 @@
-// What scans and fetches found, as it is written: line by line into a text, which is sent where it is long.
+//! What scans and fetches found, as it is written: line by line into a text, which is sent where it is long.
 ghost use Rattle.std.specs.Prelude.{◌≡◌, ◌++◌, IfOk};
 ghost use Rattle.tablet_model.specs.Order.{above};
 ghost use Rattle.tablet_model.specs.Sorted.{Ascends};

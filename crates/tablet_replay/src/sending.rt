@@ -1,4 +1,4 @@
-// The end of a reply that is sent in pieces.
+//! The end of a reply that is sent in pieces.
 ghost use Rattle.tablet_replay.specs.Replies.{HasCause, Replies};
 
 use crate::outcome::ReplyError;

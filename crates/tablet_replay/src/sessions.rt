@@ -1,3 +1,4 @@
+//! The open sessions of a script.
 ghost use Rattle.std.specs.Prelude.{◌≡◌, ◌<◌, ◌≤◌, ◌==◌, [], ◌∷◌, ◌++◌, position, length, is_ok, if◌then◌else◌, slice_get, slice_set, remove, Some, IfOk, IfSome, OnErr};
 ghost use Rattle.std.specs.Arc.{arc_value};
 ghost use Rattle.cell_key.specs.Ranges.{span_of};

@@ -1,4 +1,4 @@
-// What `show` writes of an image.
+//! What `show` writes of an image.
 ghost use Rattle.std.specs.Prelude.{◌++◌, Ok};
 ghost use Rattle.std.specs.Arc.{arc_value};
 ghost use Rattle.script_text.specs.Answers.{entry_lines};
@@ -9,8 +9,8 @@ use crate::outcome::ReplyError;
 use crate::scan::send_lines;
 use crate::sending::send_last;
 use cell_key::ByteText;
-use iter_contract::SortedSource;
 use compactor::ALL_KEYS;
+use iter_contract::SortedSource;
 use script_text::append_count;
 use sorted_file::SortedFile;
 use std::alloc::Global;

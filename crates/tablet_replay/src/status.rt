@@ -1,4 +1,4 @@
-// The status of a store, as it is written.
+//! The status of a store, as it is written.
 ghost use Rattle.std.specs.Prelude.{◌≡◌, ◌++◌, OnOk};
 ghost use Rattle.tablet_replay.specs.StatusText.{count_lines, state_lines, status_lines};
 

@@ -1,4 +1,4 @@
-// What a store answers to a step.
+//! What a store answers to a step.
 ghost use Rattle.std.specs.Prelude.{◌≡◌, ◌++◌, IsSomeAnd, OnOk};
 ghost use Rattle.tablet_model.specs.Steps as model;
 ghost use Rattle.tablet_steps.specs.ModelSteps.{model_answer_of};

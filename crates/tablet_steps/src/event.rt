@@ -1,3 +1,4 @@
+//! The steps that a store is asked for.
 use cell_key::{FileIds, Mutation};
 
 /// A step that a store is asked for. Jobs are from 1 to 999,999, files from 1 to 9,999,999,999 where a script asks.

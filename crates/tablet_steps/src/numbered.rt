@@ -1,4 +1,4 @@
-// Words and numbers of a line. Where memory is wanting a part of what is appended may stand in the text.
+//! Words and numbers of a line. Where memory is wanting a part of what is appended may stand in the text.
 ghost use Rattle.std.specs.Prelude.{◌≡◌, ◌++◌, OnOk};
 ghost use Rattle.std.specs.Fmt.{decimal};
 ghost use Rattle.tablet_steps.specs.Texts.{no_line, number_line};

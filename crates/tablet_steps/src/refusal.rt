@@ -1,4 +1,4 @@
-// Why a step of the store, or a line, is refused.
+//! Why a step of the store, or a line, is refused.
 ghost use Rattle.std.specs.Prelude.{◌≡◌, ◌++◌, codes, OnOk};
 ghost use Rattle.std.specs.Fmt.{decimal};
 ghost use Rattle.ingest.specs.Refusals.{part_of, refusal_of};
