@@ -1,7 +1,6 @@
 -- Rows that differ decide how two entries compare.
 use Rattle.std.proofs.Common.{◌≡◌}
 use Rattle.std.specs.declared.cmp.Ordering.TheVariants.{Less, Greater}
-use Rattle.std.specs.Ordering.{ordering_then}
 use Rattle.tablet_model.specs.Cell.{Cell}
 use Rattle.tablet_model.specs.Order.{bytes_cmp, cell_cmp, column_cmp, key_cmp}
 
