@@ -1,8 +1,9 @@
-use Rattle.std.proofs.Common.{◌≡◌, ◌≤◌, length, ap, ◌∙◌, arith}
+use Rattle.std.proofs.Common.{◌≡◌, ◌≤◌, length, ap, subst, ◌∙◌, arith}
 use Rattle.std.specs.Arc.{arc_value}
 use Rattle.iter_stack.specs.Stacks.{stack_rest}
 use Rattle.tablet_view.specs.Sources.{source_rest}
 use Rattle.tablet_view.proofs.Logs.{begins_length}
+use Rattle.scan_session.specs.Looks.{Leads}
 use Rattle.scan_session.specs.Runs.{place_behind}
 use Rattle.scan_session.specs.Sessions.{SessionState, number_of}
 use Rattle.scan_session.specs.Takes.{mode_of}
@@ -31,3 +32,8 @@ returns-clause-walk g c =
     let after : number_of c.go_on.new.self ≡ length (arc_value c.in_ok-view.view).log = ap (λ (s : SessionState). number_of s) c.go_on.ensures in
     let more : number_of c.args.self.now ≤ number_of c.go_on.new.self = omega arith in
     fetch_walks c.args.count c.args.self.now.place c.go_on.new.self c.in_ok-fetched.fetched.pieces c.in_ok-fetched.fetched.ended (number_of c.args.self.now) (returns-clause-pieces g c) more
+
+-- the session has the view that it had
+pub returns-in_err-fetched-clause-leads : goal.returns-in_err-fetched-clause-leads
+returns-in_err-fetched-clause-leads g c =
+    subst (λ v. Leads (g.V.Views.looks c.newest.new.views) (g.V.Views.newest c.newest.new.views) v) (ap (λ (s : SessionState). s.view) c.self.view_is) c.newest.ensures.leads
