@@ -1,4 +1,4 @@
-use Rattle.std.proofs.Common.{◌≡◌, ◌++◌, [], length, sym, subst, ap, ◌∙◌, append-nil, rules, arith}
+use Rattle.std.proofs.Common.{◌≡◌, ◌++◌, length, sym, subst, ap, ◌∙◌, append-nil, rules, arith}
 use Rattle.script_text.specs.Grammar.{line_of}
 use Rattle.script_text.specs.Lines.{lines_of}
 use Rattle.tablet_io.specs.Streams.{IsSent}

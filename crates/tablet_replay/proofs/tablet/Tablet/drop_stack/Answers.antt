@@ -1,4 +1,4 @@
-use Rattle.std.proofs.Common.{◌≡◌, ◌++◌, Some, List, ℕ, OnOk, sym, ◌∙◌, subst}
+use Rattle.std.proofs.Common.{◌≡◌, ◌++◌, List, ℕ, OnOk, sym, ◌∙◌, subst}
 use Rattle.script_text.specs.SessionAnswers.{dropped_line}
 use Rattle.script_text.specs.declared.line.SessionStep.TheVariants as step
 use Rattle.tablet_replay.specs.Replay.{session_text}

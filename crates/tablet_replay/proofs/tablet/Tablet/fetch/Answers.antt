@@ -1,4 +1,4 @@
-use Rattle.std.proofs.Common.{◌≡◌, ◌++◌, Some, sym, ap, ◌∙◌, subst}
+use Rattle.std.proofs.Common.{◌≡◌, ◌++◌, sym, ap, ◌∙◌, subst}
 use Rattle.tablet_model.proofs.Ingests.{all_at}
 use Rattle.script_text.specs.declared.line.SessionStep.TheVariants as step
 use Rattle.tablet_io.specs.Streams.{IsSent}

@@ -1,4 +1,4 @@
-use Rattle.std.proofs.Common.{◌≡◌, ◌++◌, Some, length, OnOk, sym, ap, ◌∙◌, subst}
+use Rattle.std.proofs.Common.{◌≡◌, ◌++◌, length, OnOk, sym, ap, ◌∙◌, subst}
 use Rattle.scan_session.specs.Sessions.{number_of}
 use Rattle.script_text.specs.SessionAnswers.{opened_line}
 use Rattle.script_text.specs.declared.line.SessionStep.TheVariants as step
