@@ -39,11 +39,12 @@ use std::sync::Arc;
 #[derive(Drop)]
 pub struct View {
     config: Arc<Config>,
-    log: Arc<Log>,
     files: Arc<Files>,
     frozen: Option<Arc<MemMap>>,
     memory: Arc<MemMap>,
     version: u64,
+    // The last to be dropped: an allocator is slow to take a large block back behind as many small ones as a log has.
+    log: Arc<Log>,
 }
 
 impl Model for View {
