@@ -1,6 +1,8 @@
-//! Tests of whole rows: their texts, and the iterator over any source.
+//! Tests of whole rows, their texts and their iterator, and of intersections, over any source.
 #![tactic(auto)]
 
+#[cfg(test)]
+mod documents;
 #[cfg(test)]
 mod fixtures;
 #[cfg(test)]

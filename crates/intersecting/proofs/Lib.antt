@@ -1,0 +1,11 @@
+pub mod SameTexts
+pub mod Orders
+pub mod Elements
+pub mod Firsts
+pub mod Advances
+pub mod Agreements
+pub mod RowStarts
+pub mod Rounds
+pub mod Beginnings
+pub mod Hits
+pub mod Lefts
