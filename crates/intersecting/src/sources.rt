@@ -1,3 +1,4 @@
+//! The source and its deep copies, one for each further term.
 ghost use Rattle.std.specs.Prelude.{◌≡◌, ◌+◌, false, [], map, IfOk, length};
 ghost use Rattle.std.specs.List.{AllByRecursion};
 ghost use Rattle.intersecting.specs.Firsts.{at_first};
