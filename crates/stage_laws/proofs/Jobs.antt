@@ -2,13 +2,14 @@
 use Rattle.std.proofs.Common.{◌≡◌, ◌||◌, not, ℕ, ◌+◌, ◌<◌, ◌<ℤ◌, Bool, true, false, cond, List, [], ◌∷◌, ◌++◌, eqb, Some, None, is_some, option_map, refl, sym, ap, ◌∙◌, subst, arith}
 use Rattle.std.specs.List.{AllByRecursion, filter, list_any}
 use Rattle.std.proofs.lemmas.Bool.{eqb-true, eq-eqb}
-use Rattle.tablet_model.specs.Accepted.{IsOfColumns}
+use Rattle.tablet_model.specs.Accepted.{IsOfColumns, AreAccepted, KeepsKeys}
 use Rattle.tablet_model.specs.Cell.{Cell}
 use Rattle.tablet_model.specs.Compactions.{full_compaction, minor_compaction, partial_compaction, partial_stages}
 use Rattle.tablet_model.specs.Markers.{is_live, is_unmarked, live, mark}
 use Rattle.tablet_model.specs.Order.{above}
-use Rattle.tablet_model.specs.Rules.{AreSound, Rules}
+use Rattle.tablet_model.specs.Rules.{AreSound, Rules, StandsFirst}
 use Rattle.tablet_model.specs.Sorted.{later}
+use Rattle.tablet_model.specs.Stages.{Stage}
 use Rattle.tablet_model.specs.Stands.{AreAllNewer, AreApartIds, AreApartJobs, AreBelow, AreThere, HaveOwnNumbers, StandsInJobs}
 use Rattle.tablet_model.specs.Steps.{find_job, first_missing, first_taken, holder, in_job, made_by, no_such_file, takes_all, with_job, without_job}
 use Rattle.tablet_model.specs.Store.{File, RunningJob, Store, cells_of, has_id, input_of, named, unnamed}
@@ -20,7 +21,7 @@ use Rattle.tablet_model.proofs.Risings.{all_kept}
 use Rattle.tablet_model.proofs.Sums.{all_filter, all_weaker}
 use Rattle.stage_laws.proofs.FileLists.{AllCells, all_cells, all_files, all_filtered, all_where, apart_named, below_more, cells_one_more, eqb_sym, named_next, none_unnamed, not_next, there_append, there_unnamed, true_not, unnamed_next}
 use Rattle.stage_laws.proofs.Kept.{absurd_bool, listed_key}
-use Rattle.stage_laws.proofs.Parts.{LooksAtKeys, keys_stages}
+use Rattle.stage_laws.proofs.Parts.{LooksAtKeys, keys_stages, accepted_first, all_partial}
 use Rattle.stage_laws.proofs.Whole.{full}
 
 none_some : {X : Type 0} (x : X) → None ≡ Some x → ⊥
@@ -192,21 +193,28 @@ pub fewer_files : (P : Cell → Type 0) (ids : List ℕ) (files : List File) →
 unfolding unnamed
 fewer_files P ids files h = all_cells P (unnamed ids files) (all_filter (AllCells P) (λ f. not (has_id ids f.id)) files (all_files P files h))
 
+-- the first stages of a configuration keep keys
+first_keys : (c : Rules) → AreSound c → (ps : List Stage) → StandsFirst ps c.base → AllByRecursion KeepsKeys ps
+first_keys c law ps first = accepted_first ps first.0 (subst AreAccepted (sym first.1) law.accepted)
+
 -- what a job makes has keys of its input
-pub made_keys : (P : Cell → Type 0) → LooksAtKeys P → (c : Rules) (s : Store) (t : RunningJob) → AllByRecursion P (cells_of (named t.ids s.files)) → AllByRecursion P (made_by c s t)
+pub made_keys : (P : Cell → Type 0) → LooksAtKeys P → (c : Rules) → AreSound c → (s : Store) (t : RunningJob) → AllByRecursion P (cells_of (named t.ids s.files)) → AllByRecursion P (made_by c s t)
 unfolding made_by input_of mark live
-made_keys P looks c s t h = go t.full
+made_keys P looks c law s t h = go t.full
   where
+    keys : AllByRecursion KeepsKeys c.major
+    keys = first_keys c law c.major law.major_first
+
     input : AllByRecursion P (input_of t.ids s.files)
     input = all_sorted above above_exact P (cells_of (named t.ids s.files)) h
 
     go : (b : Bool) → AllByRecursion P (cond b (full_compaction c.major (input_of t.ids s.files)) (partial_compaction c.major (input_of t.ids s.files)))
-    go true = keys_stages P looks c.major (live (input_of t.ids s.files)) (all_filter P (is_live (input_of t.ids s.files)) (input_of t.ids s.files) input)
-    go false = keys_stages P looks (partial_stages c.major) (mark (input_of t.ids s.files)) (all_kept P is_unmarked [] (input_of t.ids s.files) input)
+    go true = keys_stages P looks c.major keys (live (input_of t.ids s.files)) (all_filter P (is_live (input_of t.ids s.files)) (input_of t.ids s.files) input)
+    go false = keys_stages P looks (partial_stages c.major) (all_partial KeepsKeys c.major keys) (mark (input_of t.ids s.files)) (all_kept P is_unmarked [] (input_of t.ids s.files) input)
 
-pub minor_keys : (P : Cell → Type 0) → LooksAtKeys P → (c : Rules) (list : List Cell) → AllByRecursion P list → AllByRecursion P (minor_compaction c.minor list)
+pub minor_keys : (P : Cell → Type 0) → LooksAtKeys P → (c : Rules) → AreSound c → (list : List Cell) → AllByRecursion P list → AllByRecursion P (minor_compaction c.minor list)
 unfolding mark
-minor_keys P looks c list h = keys_stages P looks c.minor (mark list) (all_kept P is_unmarked [] list h)
+minor_keys P looks c law list h = keys_stages P looks c.minor (first_keys c law c.minor law.minor_first) (mark list) (all_kept P is_unmarked [] list h)
 
 below_left : (next : ℕ) (ids : List ℕ) (files : List File) → AreBelow next files → AreBelow next (unnamed ids files)
 unfolding unnamed
@@ -257,4 +265,4 @@ jobs_finished c law s j t found nums h = record {
         let less : AreAllNewer c.plain (cells_of (unnamed u.ids s.files)) (cells_of (named u.ids left)) = all_weaker (IsNewerThan c.plain (cells_of (named u.ids s.files))) (IsNewerThan c.plain (cells_of (named u.ids left))) (λ e m p. shrink_named (λ d. c.plain d ≡ true → d.key.time <ℤ e.key.time) u.ids t.ids s.files (m p)) (cells_of (unnamed u.ids s.files)) k in
         newer_of_more c.plain u.ids left f (not_next s.next s.files u.ids nums there)
         (shrink_unnamed (IsNewerThan c.plain (cells_of (named u.ids left))) u.ids t.ids s.files less)
-        (made_keys (IsNewerThan c.plain (cells_of (named u.ids left))) (newer_looks c.plain law.plain_columns (cells_of (named u.ids left))) c s t (moved (IsNewerThan c.plain (cells_of (named u.ids left))) t.ids u.ids s.files out less))
+        (made_keys (IsNewerThan c.plain (cells_of (named u.ids left))) (newer_looks c.plain law.plain_columns (cells_of (named u.ids left))) c law s t (moved (IsNewerThan c.plain (cells_of (named u.ids left))) t.ids u.ids s.files out less))

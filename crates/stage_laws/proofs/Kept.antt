@@ -9,9 +9,10 @@ use Rattle.tablet_model.specs.Versions.{versions, is_recent}
 use Rattle.tablet_model.specs.Filters.{filtered}
 use Rattle.tablet_model.specs.Reductions.{Reduction, IsLawful, reduced}
 use Rattle.tablet_model.specs.Combines.{combined, leads, rewritten, joined_value}
-use Rattle.tablet_model.specs.Stages.{Stage, by_column, by_cell, newest, combine, stage, stages}
+use Rattle.tablet_model.specs.Stages.{Stage, by_column, by_cell, newest, combine, rows, intersect, stage, stages}
 use Rattle.tablet_model.specs.Accepted.{IsOfColumns, IsWellMade, AreAccepted, MayFollow, IsBeside}
 use Rattle.tablet_model.specs.Reading.{IsReadBy, AreUnmarkedRead}
+use Rattle.tablet_model.proofs.Maps.{all_map}
 use Rattle.tablet_model.proofs.Orders.{same_column_equiv}
 use Rattle.tablet_model.proofs.Sums.{all_filter, all_weaker}
 use Rattle.tablet_model.proofs.Combines.{values, AllRead, reduced_read}
@@ -31,6 +32,8 @@ read_split [] vs listed r full e acc l h = ((λ k. h), after vs acc.1.0)
     after (by_cell p ∷ ts) k = (tt, after ts k.1)
     after (newest n ∷ ts) k = (tt, after ts k.1)
     after (combine others q f ∷ ts) k = ((λ m. absurd (absurd_bool m (k.0 e l))), after ts k.1)
+    after (rows ∷ ts) k = (tt, after ts k.1)
+    after (intersect terms without ∷ ts) k = (tt, after ts k.1)
 read_split (u ∷ us) vs listed r full e acc l h = (first u acc.1.0, read_split us vs listed r full e acc.1.1 l h)
   where
     at : (others : Cell → Bool) (ts : List Stage) → AllByRecursion (IsBeside others) (ts ++ combine listed r full ∷ vs) → others e ≡ true → listed e ≡ false
@@ -42,6 +45,8 @@ read_split (u ∷ us) vs listed r full e acc l h = (first u acc.1.0, read_split 
     first (by_cell p) k = tt
     first (newest n) k = tt
     first (combine others q f) k = λ m. absurd (absurd_bool l (at others us k m))
+    first rows k = tt
+    first (intersect terms without) k = tt
 
 put_own : (e : Cell) → e.key.deleted ≡ false → put_beside e e ≡ true
 unfolding put_beside
@@ -101,10 +106,6 @@ filter_read r test (m ∷ ms) h = go (test m) refl (filter_read r test ms h.1)
     go true k rest = (h.0 k, rest)
     go false k rest = rest
 
-pub all_map : (P Q : Cell → Type 0) (f : Cell → Cell) → ((e : Cell) → P e → Q (f e)) → (list : List Cell) → AllByRecursion P list → AllByRecursion Q (map f list)
-all_map P Q f g [] h = tt
-all_map P Q f g (e ∷ es) h = (g e h.0, all_map P Q f g es h.1)
-
 abbrev IsUnmarkedRead : List Stage → Cell → Type 0
 IsUnmarkedRead ss e = e.key.deleted ≡ false → AllByRecursion (IsReadBy e) ss
 
@@ -148,6 +149,8 @@ read_stage us vs (combine listed r full) list acc h =
     let P : Cell → Type 0 = λ e. IsUnmarkedRead (us ++ combine listed r full ∷ vs) e × (e.key.deleted ≡ false → list_any (put_beside e) list ≡ true) in
     all_map P (IsUnmarkedRead (us ++ combine listed r full ∷ vs)) (rewritten listed r list) (read_rewritten us vs listed r full list acc h) (kept (leads listed) [] list)
     (all_kept P (leads listed) [] list (all_and (IsUnmarkedRead (us ++ combine listed r full ∷ vs)) (λ e. e.key.deleted ≡ false → list_any (put_beside e) list ≡ true) list h (stands_from [] list)))
+read_stage us vs rows list acc h = absurd (made_at us vs rows acc)
+read_stage us vs (intersect terms without) list acc h = absurd (made_at us vs (intersect terms without) acc)
 
 read_from : (us ps qs : List Stage) (list : List Cell) → AreAccepted (us ++ (ps ++ qs)) → AreUnmarkedRead (us ++ (ps ++ qs)) list → AreUnmarkedRead (us ++ (ps ++ qs)) (stages ps list)
 unfolding stages

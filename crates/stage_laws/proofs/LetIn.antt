@@ -7,7 +7,7 @@ use Rattle.tablet_model.specs.History.{Change, RowChange, entries_of, entry_of, 
 use Rattle.tablet_model.specs.Ingest.{AreLetIn, bad_value, delete_here, duplicate, first_twice, first_where, ingest, is_mistimed, is_read, is_refused_delete, is_unread, out_of_bounds, time_here}
 use Rattle.tablet_model.specs.Reading.{IsReadBy}
 use Rattle.tablet_model.specs.Rules.{AreStorable, IsStorable, Rules}
-use Rattle.tablet_model.specs.Stages.{Stage, by_cell, by_column, combine, newest}
+use Rattle.tablet_model.specs.Stages.{Stage, by_cell, by_column, combine, intersect, newest, rows}
 use Rattle.tablet_model.specs.Stands.{AreWithin}
 use Rattle.tablet_model.proofs.Ingests.{IsInside, IsShortEnough, bounds_one, inside, none_first, none_map, none_second, nowhere}
 use Rattle.tablet_model.proofs.Merges.{all_append}
@@ -27,6 +27,8 @@ reads_all (combine listed r full ∷ ss) e h = ((λ l. first (listed e) (r.reads
 
     second : (a b : Bool) → (a && b) ≡ true → b ≡ true
     second a b h = grind arith
+reads_all (rows ∷ ss) e h = (tt, reads_all ss e h)
+reads_all (intersect terms without ∷ ss) e h = (tt, reads_all ss e h)
 
 -- what the checks say of a change of the k-th mutation
 record IsLetIn (c : Rules) (m : RowChange) (k : ℕ) (u : Change) : Type 0 where

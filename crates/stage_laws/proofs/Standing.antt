@@ -200,7 +200,7 @@ stands_flushed c s h law below k =
         order = le_refl p.closed;
         bound = p.bound;
         in_files = cells_one_more (IsWithin c.plain 0 p.closed) s.files f (within_weaker c.plain 0 0 p.settled p.closed files (le_refl 0) p.order p.file_times)
-            (within_weaker c.plain p.settled 0 p.closed p.closed f.cells (zero_le p.settled) (le_refl p.closed) (minor_keys (IsWithin c.plain p.settled p.closed) (within_looks c.plain law.plain_columns p.settled p.closed) c z p.frozen_times));
+            (within_weaker c.plain p.settled 0 p.closed p.closed f.cells (zero_le p.settled) (le_refl p.closed) (minor_keys (IsWithin c.plain p.settled p.closed) (within_looks c.plain law.plain_columns p.settled p.closed) c law z p.frozen_times));
         in_frozen = tt;
         in_memory = p.memory_times;
       };
@@ -214,4 +214,4 @@ stands_flushed c s h law below k =
 pub flushed_newer : (c : Rules) (s : Store) (h : List RowChange) → AreSound c → StandsInParts c s h → AreAllNewer c.plain (minor_compaction c.minor (frozen_of s)) (cells_of s.files)
 flushed_newer c s h law k =
     let p : Parts c s (length h) = parts c s h k in
-    all_newer c.plain 0 p.settled p.settled p.closed (cells_of s.files) (minor_compaction c.minor (frozen_of s)) (le_refl p.settled) p.file_times (minor_keys (IsWithin c.plain p.settled p.closed) (within_looks c.plain law.plain_columns p.settled p.closed) c (frozen_of s) p.frozen_times)
+    all_newer c.plain 0 p.settled p.settled p.closed (cells_of s.files) (minor_compaction c.minor (frozen_of s)) (le_refl p.settled) p.file_times (minor_keys (IsWithin c.plain p.settled p.closed) (within_looks c.plain law.plain_columns p.settled p.closed) c law (frozen_of s) p.frozen_times)

@@ -19,7 +19,8 @@ use Rattle.tablet_model.proofs.Sums.{Ascends-sorted, all_filter, all_weaker}
 use Rattle.stage_laws.proofs.FileLists.{cells_append, cells_one_more, rising_filter, rising_more}
 use Rattle.stage_laws.proofs.Jobs.{fewer, fewer_files, found_job, made_keys}
 use Rattle.stage_laws.proofs.Standing.{Parts, le_refl, parts}
-use Rattle.stage_laws.proofs.Storable.{all_deletable, all_plain, all_read, keeps_first, keeps_live, keeps_mark, keeps_partial, keeps_stages}
+use Rattle.stage_laws.proofs.Parts.{all_partial}
+use Rattle.stage_laws.proofs.Storable.{IsKeeping, all_deletable, all_plain, all_read, keeps_first, keeps_live, keeps_mark, keeps_stages}
 use Rattle.stage_laws.proofs.StoreSums.{file_and_rest, input_and_rest, partial_unseen, whole_unseen}
 use Rattle.stage_laws.proofs.StoreTimes.{IsWithin, all_newer, newer_columns, within_looks}
 
@@ -48,7 +49,7 @@ made_all_job c law s t h = go t.full
 
     go : (b : Bool) → AreStorable c (cond b (full_compaction c.major (input_of t.ids s.files)) (partial_compaction c.major (input_of t.ids s.files)))
     go true = keeps_stages c c.major (keeps_first c law c.major law.major_first) (live (input_of t.ids s.files)) (keeps_live c (input_of t.ids s.files) input)
-    go false = keeps_stages c (partial_stages c.major) (keeps_partial c c.major (keeps_first c law c.major law.major_first)) (mark (input_of t.ids s.files)) (keeps_mark c (input_of t.ids s.files) input)
+    go false = keeps_stages c (partial_stages c.major) (all_partial (IsKeeping c) c.major (keeps_first c law c.major law.major_first)) (mark (input_of t.ids s.files)) (keeps_mark c (input_of t.ids s.files) input)
 
 made_unseen : (c : Rules) → AreSound c → (s : Store) (t : RunningJob) (x : List Cell) → AreStorable c (input_of t.ids s.files) → AreStorable c x → (t.full ≡ true → AreAllNewer c.plain x (input_of t.ids s.files)) → stages c.base (live (sum_of (made_by c s t) x)) ≡ stages c.base (live (sum_of (input_of t.ids s.files) x))
 unfolding made_by
@@ -89,7 +90,7 @@ stands_replaced c s h t law below newer k =
         closed = p.closed;
         order = p.order;
         bound = p.bound;
-        in_files = cells_one_more (IsWithin c.plain 0 p.settled) (unnamed t.ids s.files) f (fewer_files (IsWithin c.plain 0 p.settled) t.ids s.files p.file_times) (made_keys (IsWithin c.plain 0 p.settled) (within_looks c.plain law.plain_columns 0 p.settled) c s t taken_times);
+        in_files = cells_one_more (IsWithin c.plain 0 p.settled) (unnamed t.ids s.files) f (fewer_files (IsWithin c.plain 0 p.settled) t.ids s.files p.file_times) (made_keys (IsWithin c.plain 0 p.settled) (within_looks c.plain law.plain_columns 0 p.settled) c law s t taken_times);
         in_frozen = p.frozen_times;
         in_memory = p.memory_times;
       };

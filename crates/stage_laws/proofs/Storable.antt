@@ -1,24 +1,24 @@
 -- What compactions keep of each entry that a store may have.
 use Rattle.std.proofs.Common.{◌≡◌, ◌||◌, ◌&&◌, not, ◌≤◌, ℤ, Bool, true, false, cond, List, [], ◌∷◌, ◌++◌, length, refl, sym, ◌∙◌, subst, arith, append_assoc}
 use Rattle.std.specs.List.{AllByRecursion, filter, list_any}
-use Rattle.tablet_model.specs.Accepted.{AreAccepted, AreDeletable, IsDeletable, IsOfColumns, is_full}
+use Rattle.tablet_model.specs.Accepted.{AreAccepted, AreDeletable, IsDeletable, IsOfColumns}
 use Rattle.tablet_model.specs.Ages.{HasPlainMarkers}
 use Rattle.tablet_model.specs.Cell.{Cell}
 use Rattle.tablet_model.specs.Combines.{combined, joined_value, leads, rewritten}
-use Rattle.tablet_model.specs.Compactions.{partial_stages}
 use Rattle.tablet_model.specs.Filters.{filtered}
 use Rattle.tablet_model.specs.Kept.{kept}
 use Rattle.tablet_model.specs.Markers.{is_live, is_unmarked, live, mark, put_beside}
 use Rattle.tablet_model.specs.Reading.{AreUnmarkedRead, IsReadBy}
 use Rattle.tablet_model.specs.Reductions.{IsLawful, Reduction, reduced}
 use Rattle.tablet_model.specs.Rules.{AreSound, AreStorable, IsApartFrom, IsShort, IsStorable, Rules, StandsFirst}
-use Rattle.tablet_model.specs.Stages.{Stage, by_cell, by_column, combine, newest, stage, stages}
+use Rattle.tablet_model.specs.Stages.{Stage, by_cell, by_column, combine, intersect, newest, rows, stage, stages}
 use Rattle.tablet_model.specs.Versions.{is_recent, versions}
+use Rattle.tablet_model.proofs.Maps.{all_map}
 use Rattle.tablet_model.proofs.Combines.{AllRead, join_from_value, values}
 use Rattle.tablet_model.proofs.Merges.{all_left}
 use Rattle.tablet_model.proofs.Risings.{all_kept}
 use Rattle.tablet_model.proofs.Sums.{all_filter, all_weaker}
-use Rattle.stage_laws.proofs.Kept.{absurd_bool, all_and, all_map, filter_read, listed_key, made_at, put_column, put_live, read_at, read_split, reduced_some, stands_from}
+use Rattle.stage_laws.proofs.Kept.{absurd_bool, all_and, filter_read, listed_key, made_at, put_column, put_live, read_at, read_split, reduced_some, stands_from}
 use Rattle.stage_laws.proofs.Whole.{full}
 
 reduced_short : (r : Reduction) → IsLawful r → ((v : List ℤ) → r.is_value v ≡ true → length (r.text v) ≤ 65536) → (list : List Cell) (test : Cell → Bool) → list_any test list ≡ true → AllRead r (filter test list) → length (reduced r (values (filter test list))) ≤ 65536
@@ -37,6 +37,8 @@ read_apart (by_column p ∷ ts) listed r full e h l = (tt, read_apart ts listed 
 read_apart (by_cell p ∷ ts) listed r full e h l = (tt, read_apart ts listed r full e h.1 l)
 read_apart (newest n ∷ ts) listed r full e h l = (tt, read_apart ts listed r full e h.1 l)
 read_apart (combine others q f ∷ ts) listed r full e h l = ((λ k. absurd (absurd_bool k (h.0 e l))), read_apart ts listed r full e h.1 l)
+read_apart (rows ∷ ts) listed r full e h l = (tt, read_apart ts listed r full e h.1 l)
+read_apart (intersect terms without ∷ ts) listed r full e h l = (tt, read_apart ts listed r full e h.1 l)
 
 -- what is known of a combiner of the base
 record IsCombiner (c : Rules) (listed : Cell → Bool) (r : Reduction) (full : Bool) : Type 0 where
@@ -111,6 +113,8 @@ keeps_at c law us vs (combine listed r full) e list h = combiner_keeps c listed 
       alone = λ y l k. subst (AllByRecursion (IsReadBy y)) e (read_split us vs listed r full y accepted l k);
       reads = λ y k. read_at us vs (combine listed r full) y (subst (AllByRecursion (IsReadBy y)) (sym e) k);
     }
+keeps_at c law us vs rows e list h = absurd (made_at us vs rows (subst AreAccepted (sym e) law.accepted))
+keeps_at c law us vs (intersect terms without) e list h = absurd (made_at us vs (intersect terms without) (subst AreAccepted (sym e) law.accepted))
 
 keeps_from : (c : Rules) → AreSound c → (us vs : List Stage) → us ++ vs ≡ c.base → AllByRecursion (IsKeeping c) vs
 keeps_from c law us [] e = tt
@@ -118,15 +122,6 @@ keeps_from c law us (v ∷ vs) e = (keeps_at c law us vs v e, keeps_from c law (
 
 pub keeps_first : (c : Rules) → AreSound c → (ps : List Stage) → StandsFirst ps c.base → AllByRecursion (IsKeeping c) ps
 keeps_first c law ps h = all_left (IsKeeping c) ps h.0 (keeps_from c law [] (ps ++ h.0) h.1)
-
-pub keeps_partial : (c : Rules) (ss : List Stage) → AllByRecursion (IsKeeping c) ss → AllByRecursion (IsKeeping c) (partial_stages ss)
-unfolding partial_stages
-keeps_partial c [] h = tt
-keeps_partial c (s ∷ ss) h = go (is_full s) (keeps_partial c ss h.1)
-  where
-    go : (b : Bool) → AllByRecursion (IsKeeping c) (partial_stages ss) → AllByRecursion (IsKeeping c) (cond b (partial_stages ss) (s ∷ partial_stages ss))
-    go true k = k
-    go false k = (h.0, k)
 
 pub keeps_stages : (c : Rules) (ss : List Stage) → AllByRecursion (IsKeeping c) ss → (list : List Cell) → AreStorable c list → AreStorable c (stages ss list)
 unfolding stages

@@ -8,26 +8,26 @@ use Rattle.tablet_model.specs.Sorted.{Ascends}
 use Rattle.tablet_model.specs.Sum.{sum_of}
 use Rattle.tablet_model.specs.Markers.{mark, live}
 use Rattle.tablet_model.specs.Stages.{Stage, stages}
-use Rattle.tablet_model.specs.Accepted.{IsOfColumns, IsWellMade, AreAccepted}
+use Rattle.tablet_model.specs.Accepted.{IsOfColumns, IsWellMade, KeepsKeys, AreAccepted}
 use Rattle.tablet_model.specs.Reading.{IsReadBy, AreUnmarkedRead}
 use Rattle.tablet_model.specs.Ages.{IsApart, AreApart, IsNewer, AreNewer, HasPlainMarkers}
 use Rattle.tablet_model.proofs.Orders.{above_exact, exact_columns}
 use Rattle.tablet_model.proofs.Sums.{all_filter, all_weaker, Ascends-filter}
 use Rattle.tablet_model.proofs.Columns.{of_column, equal_by_columns, column-sum, column-live, column-mark, filter_within}
 use Rattle.tablet_model.proofs.OneColumn.{columns_tie, InColumn, of_column_in, Ascends-live, Ascends-sum}
-use Rattle.stage_laws.proofs.Parts.{column-stages, Ascends-stages, made_all, stages_none}
+use Rattle.stage_laws.proofs.Parts.{column-stages, Ascends-stages, made_all, stages_none, accepted_keys, accepted_first, keys_kept}
 use Rattle.stage_laws.proofs.Marked.{AreSplit, minor_in, full_in, added_in, Beside, beside_newer}
 
 -- the answer of a sum, column by column
-column_answer : (ss : List Stage) (c : Cell) (a x : List Cell) → of_column c (stages ss (live (sum_of a x))) ≡ stages ss (live (sum_of (of_column c a) (of_column c x)))
-column_answer ss c a x = column-stages ss c (live (sum_of a x)) ∙ ap (stages ss) (column-live c (sum_of a x) ∙ ap live (column-sum c a x))
+column_answer : (ss : List Stage) → AllByRecursion KeepsKeys ss → (c : Cell) (a x : List Cell) → of_column c (stages ss (live (sum_of a x))) ≡ stages ss (live (sum_of (of_column c a) (of_column c x)))
+column_answer ss k c a x = column-stages ss k c (live (sum_of a x)) ∙ ap (stages ss) (column-live c (sum_of a x) ∙ ap live (column-sum c a x))
 
 Ascends-answer : (ss : List Stage) → AreAccepted ss → (a x : List Cell) → Ascends above (stages ss (live (sum_of a x)))
 Ascends-answer ss acc a x = Ascends-stages ss (made_all ss acc) (live (sum_of a x)) (Ascends-live (sum_of a x) (Ascends-sum a x))
 
 -- answers of two sums that agree in each column
 pub equal_answers : (ss : List Stage) → AreAccepted ss → (a b x : List Cell) → ((c : Cell) → stages ss (live (sum_of (of_column c a) (of_column c x))) ≡ stages ss (live (sum_of (of_column c b) (of_column c x)))) → stages ss (live (sum_of a x)) ≡ stages ss (live (sum_of b x))
-equal_answers ss acc a b x h = equal_by_columns (stages ss (live (sum_of a x))) (stages ss (live (sum_of b x))) (Ascends-answer ss acc a x) (Ascends-answer ss acc b x) (λ c. column_answer ss c a x ∙ h c ∙ sym (column_answer ss c b x))
+equal_answers ss acc a b x h = equal_by_columns (stages ss (live (sum_of a x))) (stages ss (live (sum_of b x))) (Ascends-answer ss acc a x) (Ascends-answer ss acc b x) (λ c. column_answer ss (accepted_keys ss acc) c a x ∙ h c ∙ sym (column_answer ss (accepted_keys ss acc) c b x))
 
 pub read_column : (ss : List Stage) (c : Cell) (list : List Cell) → AreUnmarkedRead ss list → AreUnmarkedRead ss (of_column c list)
 read_column ss c list h = all_filter (λ e. e.key.deleted ≡ false → AllByRecursion (IsReadBy e) ss) (same_column c) list h
@@ -50,7 +50,7 @@ apart_column c x a h = all_filter (λ m. m.key.deleted ≡ true → AllByRecursi
 -- a part that a minor compaction took
 minor : (ps qs : List Stage) (a x : List Cell) → AreAccepted (ps ++ qs) → Ascends above a → AreUnmarkedRead (ps ++ qs) a → AreUnmarkedRead (ps ++ qs) x → AreSplit x a → stages (ps ++ qs) (live (sum_of (stages ps (mark a)) x)) ≡ stages (ps ++ qs) (live (sum_of a x))
 minor ps qs a x acc up ra rx apart = equal_answers (ps ++ qs) acc (stages ps (mark a)) a x (λ c.
-    ap (λ l. stages (ps ++ qs) (live (sum_of l (of_column c x)))) (column-stages ps c (mark a) ∙ ap (stages ps) (column-mark c a))
+    ap (λ l. stages (ps ++ qs) (live (sum_of l (of_column c x)))) (column-stages ps (accepted_first ps qs acc) c (mark a) ∙ ap (stages ps) (column-mark c a))
     ∙ minor_in ps qs c (of_column c a) (of_column c x) acc (of_column_in c a) (of_column_in c x) (Ascends-filter above above_exact (same_column c) a up) (read_column (ps ++ qs) c a ra) (read_column (ps ++ qs) c x rx) (apart_column c x a apart))
 
 -- in columns where all markers are plain, it is enough to stand apart from the plain entries
@@ -69,7 +69,7 @@ minor_plain plain cols ps qs a x acc up ra rx mx apart = minor ps qs a x acc up 
 -- a part that a full compaction took
 pub full : (plain : Cell → Bool) → IsOfColumns plain → (ps qs : List Stage) (a x : List Cell) → AreAccepted (ps ++ qs) → Ascends above a → AreUnmarkedRead (ps ++ qs) a → AreUnmarkedRead (ps ++ qs) x → HasPlainMarkers plain a → HasPlainMarkers plain x → AreNewer plain x a → stages (ps ++ qs) (live (sum_of (stages ps (live a)) x)) ≡ stages (ps ++ qs) (live (sum_of a x))
 full plain cols ps qs a x acc up ra rx ma mx newer = equal_answers (ps ++ qs) acc (stages ps (live a)) a x (λ c.
-    ap (λ l. stages (ps ++ qs) (live (sum_of l (of_column c x)))) (column-stages ps c (live a) ∙ ap (stages ps) (column-live c a))
+    ap (λ l. stages (ps ++ qs) (live (sum_of l (of_column c x)))) (column-stages ps (accepted_first ps qs acc) c (live a) ∙ ap (stages ps) (column-live c a))
     ∙ full_in ps qs c (of_column c a) (of_column c x) acc (of_column_in c a) (of_column_in c x) (Ascends-filter above above_exact (same_column c) a up) (read_column (ps ++ qs) c a ra) (read_column (ps ++ qs) c x rx) (beside_column plain cols c x a mx ma newer))
 
 -- what is newer than two lists of one answer
@@ -80,7 +80,7 @@ added plain cols ss u w v acc uu uw ru rw' rv mu mw mv nu nw same = equal_answer
     (in_column c u ∙ ap (of_column c) same ∙ sym (in_column c w)))
   where
     in_column : (c : Cell) (l : List Cell) → stages ss (live (of_column c l)) ≡ of_column c (stages ss (live l))
-    in_column c l = sym (column-stages ss c (live l) ∙ ap (stages ss) (column-live c l))
+    in_column c l = sym (column-stages ss (accepted_keys ss acc) c (live l) ∙ ap (stages ss) (column-live c l))
 
 -- a restriction to columns, as to families, before or after
 restrict_sum_in : (fam : Cell → Bool) → IsOfColumns fam → (f : List Cell → List Cell) → f [] ≡ [] → (c : Cell) (list : List Cell) → InColumn c list → InColumn c (f list) → filter fam (f list) ≡ f (filter fam list)
@@ -123,7 +123,7 @@ pub restrict_live : (fam : Cell → Bool) → IsOfColumns fam → (list : List C
 restrict_live fam cols list up = restrict fam cols live live_none column-live list (Ascends-live list up) (Ascends-live (filter fam list) (Ascends-filter above above_exact fam list up))
 
 pub restrict_stages : (fam : Cell → Bool) → IsOfColumns fam → (ss : List Stage) → AllByRecursion IsWellMade ss → (list : List Cell) → Ascends above list → filter fam (stages ss list) ≡ stages ss (filter fam list)
-restrict_stages fam cols ss w list up = restrict fam cols (stages ss) (stages_none ss) (column-stages ss) list (Ascends-stages ss w list up) (Ascends-stages ss w (filter fam list) (Ascends-filter above above_exact fam list up))
+restrict_stages fam cols ss w list up = restrict fam cols (stages ss) (stages_none ss) (column-stages ss (keys_kept ss w)) list (Ascends-stages ss w list up) (Ascends-stages ss w (filter fam list) (Ascends-filter above above_exact fam list up))
 
 pub restrict_answer : (fam : Cell → Bool) → IsOfColumns fam → (ss : List Stage) → AllByRecursion IsWellMade ss → (list : List Cell) → Ascends above list → filter fam (stages ss (live list)) ≡ stages ss (live (filter fam list))
 restrict_answer fam cols ss w list up = restrict_stages fam cols ss w (live list) (Ascends-live list up) ∙ ap (stages ss) (restrict_live fam cols list up)

@@ -11,7 +11,7 @@ use Rattle.tablet_model.specs.Sum.{sum_of}
 use Rattle.tablet_model.specs.Families.{is_in, in_families}
 use Rattle.tablet_model.specs.Markers.{live, mark}
 use Rattle.tablet_model.specs.Stages.{Stage, stages}
-use Rattle.tablet_model.specs.Accepted.{IsOfColumns, IsWellMade, AreAccepted, AreDeletable, IsNotNewest, is_full}
+use Rattle.tablet_model.specs.Accepted.{IsOfColumns, IsWellMade, KeepsKeys, AreAccepted, AreDeletable, IsNotNewest, is_full}
 use Rattle.tablet_model.specs.Reading.{AreRead, AreUnmarkedRead, AreInFront}
 use Rattle.tablet_model.specs.Ages.{AreNewer, AreApart, HasPlainMarkers}
 use Rattle.tablet_model.specs.Compactions.{minor_compaction, partial_compaction, full_compaction}
@@ -73,12 +73,12 @@ FamiliesMayComeFirst = (families : Option (List (List ℕ))) (list : List Cell) 
 abbrev pub StagesAscend : Type 0
 StagesAscend = (ss : List Stage) → AllByRecursion IsWellMade ss → (list : List Cell) → Ascends above list → Ascends above (stages ss list)
 
--- stages make no new keys: a test that all keys pass, all go on to pass
+-- stages of compactions make no new keys: a test that all keys pass, all go on to pass
 abbrev pub StagesMakeNoKeys : Type 0
-StagesMakeNoKeys = (test : CellKey → Bool) (ss : List Stage) (list : List Cell)
+StagesMakeNoKeys = (test : CellKey → Bool) (ss : List Stage) → AllByRecursion KeepsKeys ss → (list : List Cell)
     → AllByRecursion (λ e. test e.key ≡ true) list → AllByRecursion (λ e. test e.key ≡ true) (stages ss list)
 
--- and so their keys stay within the bounds
+-- keys stay within the bounds
 abbrev pub StagesStayInBounds : Type 0
 StagesStayInBounds = (ss : List Stage) (list : List Cell) → AreEntries list → AreEntries (stages ss list)
 

@@ -1,3 +1,7 @@
+pub mod Bools
+pub mod Texts
+pub mod Times
+pub mod Maps
 pub mod Orders
 pub mod Sums
 pub mod Merges
@@ -11,6 +15,7 @@ pub mod Fronts
 pub mod Cursors
 pub mod CombineSteps
 pub mod Rows
+pub mod RowBounds
 pub mod Bridges
 pub mod Regroup
 pub mod CutLemmas

@@ -4,7 +4,7 @@ use Rattle.std.specs.Option.{option_or}
 use Rattle.std.specs.List.{list_any}
 use Rattle.tablet_model.specs.Limits.{max_changes, max_mutations, max_part, max_value}
 use Rattle.tablet_model.specs.Cell.{Cell}
-use Rattle.tablet_model.specs.Stages.{Stage, by_column, by_cell, newest, combine}
+use Rattle.tablet_model.specs.Stages.{Stage, by_column, by_cell, newest, combine, rows, intersect}
 use Rattle.tablet_model.specs.History.{Change, RowChange, is_delete, entry_of}
 use Rattle.tablet_model.specs.Rules.{Rules}
 
@@ -73,6 +73,8 @@ is_read (by_column p ∷ ss) e = is_read ss e
 is_read (by_cell p ∷ ss) e = is_read ss e
 is_read (newest n ∷ ss) e = is_read ss e
 is_read (combine listed r full ∷ ss) e = (not (listed e) || r.reads e.value) && is_read ss e
+is_read (rows ∷ ss) e = is_read ss e
+is_read (intersect terms without ∷ ss) e = is_read ss e
 
 -- the fifth check: a put with a value that a combiner does not read
 unfoldable pub is_unread : Rules → ℕ → RowChange → Change → Bool

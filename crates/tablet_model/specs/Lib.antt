@@ -15,6 +15,7 @@ pub mod Filters
 pub mod Reductions
 pub mod Combines
 pub mod Rows
+pub mod RowText
 pub mod Stages
 pub mod Accepted
 pub mod Reading

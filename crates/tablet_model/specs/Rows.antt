@@ -1,5 +1,5 @@
 -- Whole rows, and documents that have all terms.
-use Rattle.std.specs.Prelude.{ℕ, ℤ, Bool, not, ◌&&◌, false, List, [], map, filter}
+use Rattle.std.specs.Prelude.{ℕ, ℤ, pos, Bool, not, ◌&&◌, false, List, [], ◌∷◌, map, filter}
 use Rattle.std.specs.List.{list_any, list_all}
 use Rattle.std.specs.Ordering.{eq_by_cmp}
 use Rattle.tablet_model.specs.Cell.{Cell}
@@ -17,6 +17,10 @@ same_row a b = same_bytes a.key.row b.key.row
 -- the first of its row
 unfoldable pub leads_row : List Cell → Cell → Bool
 leads_row before e = not (list_any (same_row e) before)
+
+-- the time of the entries that stand for rows and documents: the greatest there is (this project's rule)
+abbrev pub last_time : ℤ
+last_time = pos 9223372036854775807
 
 -- the entry that stands for the row of e; its time `last` and its empty parts are this project's rule
 unfoldable pub row_entry : ℤ → (List Cell → List ℕ) → List Cell → Cell → Cell
@@ -47,3 +51,8 @@ intersect last first others without list = map (λ e. record {
   key = record { row = e.key.row; family = []; qualifier = e.key.qualifier; visibility = []; time = last; deleted = false };
   value = [];
 }) (kept (leads_hit first others without list) [] list)
+
+-- the documents that have all terms, of which there is one at least, and none of the terms that they are to be without
+unfoldable pub intersected : List (List ℕ) → List (List ℕ) → List Cell → List Cell
+intersected [] without list = []
+intersected (first ∷ others) without list = intersect last_time first others without list

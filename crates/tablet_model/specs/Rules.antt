@@ -4,7 +4,7 @@ use Rattle.std.specs.List.{AllByRecursion, list_any}
 use Rattle.tablet_model.specs.Limits.{max_value}
 use Rattle.tablet_model.specs.Cell.{Cell}
 use Rattle.tablet_model.specs.Bounds.{KeyBounds}
-use Rattle.tablet_model.specs.Stages.{Stage, by_column, by_cell, newest, combine, stages}
+use Rattle.tablet_model.specs.Stages.{Stage, by_column, by_cell, newest, combine, rows, intersect, stages}
 use Rattle.tablet_model.specs.Accepted.{IsOfColumns, AreAccepted, IsDeletable, is_full, IsNotNewest}
 use Rattle.tablet_model.specs.Reading.{IsReadBy}
 
@@ -32,6 +32,10 @@ IsApartFrom (combine listed r full) (by_column p) = ⊤
 IsApartFrom (combine listed r full) (by_cell p) = ⊤
 IsApartFrom (combine listed r full) (newest n) = ⊤
 IsApartFrom (combine listed r full) (combine others q f) = (e : Cell) → listed e ≡ true → others e ≡ false
+IsApartFrom (combine listed r full) rows = ⊤
+IsApartFrom (combine listed r full) (intersect terms without) = ⊤
+IsApartFrom rows t = ⊤
+IsApartFrom (intersect terms without) t = ⊤
 
 -- a combiner writes values that a put may have
 abbrev pub IsShort : Stage → Type 0
@@ -39,6 +43,8 @@ IsShort (by_column p) = ⊤
 IsShort (by_cell p) = ⊤
 IsShort (newest n) = ⊤
 IsShort (combine listed r full) = (v : List ℤ) → r.is_value v ≡ true → length (r.text v) ≤ max_value
+IsShort rows = ⊤
+IsShort (intersect terms without) = ⊤
 
 -- a list begins with another
 abbrev pub StandsFirst : List Stage → List Stage → Type 0
