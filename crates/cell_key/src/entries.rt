@@ -70,6 +70,7 @@ impl Entries {
     pub fn push(&mut self, element: Entry) -> Result<(), NoMemory>
         ensures { self.new ≡ (if is_ok result then self.old ++ element ∷ [] else self.old) }
     {
+        // That an entry is within bounds is kept of the list, and said by `entry`.
         let _ = element.entry();
         self.entries.push(element)?;
         Ok(())

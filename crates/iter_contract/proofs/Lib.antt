@@ -1,5 +1,6 @@
 pub mod Elements
 pub mod FirstTops
+pub mod Following
 pub mod Moves
 pub mod Partition
 pub mod SoughtSums

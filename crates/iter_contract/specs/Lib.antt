@@ -1,4 +1,5 @@
 pub mod Copies
+pub mod Following
 pub mod VecRest
 pub mod Props
 pub mod Several

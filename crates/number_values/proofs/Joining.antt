@@ -3,7 +3,7 @@ use Rattle.std.proofs.Common.{◌≡◌, ◌<◌, ◌^◌, ◌+◌, ℕ, ℤ, po
 use Rattle.std.specs.Int.{w64, cast_signed, cast_unsigned, int_min, int_max}
 use Rattle.std.specs.Prelude.{nat_lt}
 use Rattle.std.proofs.lemmas.Int.{ints, clamps, to_z-of_z}
-use Rattle.std.proofs.lemmas.Nat.{from_be_bytes-to_be_bytes_8}
+use Rattle.byteorder.specs.Numbers.{big_number-reads_back}
 use Rattle.tablet_model.specs.Reductions.{IsLawful}
 use Rattle.number_values.specs.declared.op.Encoding.{Encoding}
 use Rattle.number_values.specs.declared.op.Encoding.TheVariants as encoding
@@ -81,7 +81,7 @@ joined_assoc op.ArraySum (pos a) (pos b) (negsuc c) h k l = let no : false ≡ t
 -- ---- texts
 
 fixed_back : (z : ℤ) → is_long z ≡ true → number_in encoding.Fixed (text_of encoding.Fixed z) ≡ Some z
-fixed_back z h = ap (λ n. Some (cast_signed w64 n)) (from_be_bytes-to_be_bytes_8 (cast_unsigned w64 z) (bits z h)) ∙ ap (λ z. Some z) (to_z-of_z w64 z (long_fits z h))
+fixed_back z h = ap (λ n. Some (cast_signed w64 n)) (big_number-reads_back 8 (cast_unsigned w64 z) [] (bits z h)) ∙ ap (λ z. Some z) (to_z-of_z w64 z (long_fits z h))
   where
     below : (a b : ℕ) → nat_lt a b ≡ true → a < b
     below a b h = grind arith

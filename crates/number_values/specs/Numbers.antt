@@ -1,10 +1,11 @@
 -- Numbers as values: how they are spelled, and what an operation makes of them. The operations are those of Accumulo's
 -- combiners; the bounds of sums and the number of digits are this project's rules.
 use Rattle.std.specs.Prelude.{ℕ, ℤ, pos, negsuc, ◌+ℤ◌, ◌^◌, Bool, false, ◌&&◌, cond, List, [], ◌∷◌, Option, Some, None, length, nat_eq, nat_lt}
-use Rattle.std.specs.Int.{w64, cast_signed, cast_unsigned, from_be_bytes, to_be_bytes, int_min, int_max}
+use Rattle.std.specs.Int.{w64, cast_signed, cast_unsigned, int_min, int_max}
 use Rattle.std.specs.Str.{all_ascii_digits}
 use Rattle.std.specs.Str.Parse.{without_leading_sign, signed_digits_value}
 use Rattle.std.specs.Fmt.{signed_decimal}
+use Rattle.byteorder.specs.Endian.{big_bytes, big_number}
 use Rattle.tablet_model.specs.Reductions.{Reduction}
 use Rattle.number_values.specs.declared.op.Encoding.{Encoding}
 use Rattle.number_values.specs.declared.op.Encoding.TheVariants as encoding
@@ -18,7 +19,7 @@ is_long (negsuc n) = nat_lt n (2 ^ 63)
 
 -- 8 bytes, big-endian, are a number in two's complement
 abbrev pub fixed_in : List ℕ → Option ℤ
-fixed_in bytes = cond (nat_eq (length bytes) 8) (Some (cast_signed w64 (from_be_bytes w64 bytes))) None
+fixed_in bytes = cond (nat_eq (length bytes) 8) (Some (cast_signed w64 (big_number 8 bytes))) None
 
 -- 1 to 32 decimal digits and nothing else
 abbrev pub are_digits : List ℕ → Bool
@@ -35,7 +36,7 @@ number_in encoding.String bytes = decimal_in bytes
 
 -- how a number is written; decimal without leading zeros, and without `+`
 abbrev pub text_of : Encoding → ℤ → List ℕ
-text_of encoding.Fixed z = to_be_bytes w64 (cast_unsigned w64 z)
+text_of encoding.Fixed z = big_bytes 8 (cast_unsigned w64 z)
 text_of encoding.String z = signed_decimal z
 
 -- the numbers of an operation: to be added from 0 up, else any of 64 bits

@@ -5,7 +5,8 @@ ghost use Rattle.number_values.specs.Arrays.{parts_of, parts_left};
 
 use crate::op::Encoding;
 
-const FIXED_SIZE: usize = 8;
+/// How many bytes a fixed number takes.
+pub(crate) const FIXED_SIZE: usize = 8;
 
 /// The bytes of an array's first number, and what follows them, if anything does.
 pub(crate) fn split_first(encoding: Encoding, bytes: &[u8]) -> (&[u8], Option<&[u8]>)

@@ -4,6 +4,8 @@ ghost use Rattle.std.specs.Str.Parse.{without_leading_sign};
 ghost use Rattle.number_values.specs.Numbers.{number_in, fixed_in, decimal_in};
 
 use crate::op::Encoding;
+use crate::parts::FIXED_SIZE;
+use byteorder::{BigEndian, ByteOrder};
 use std::str;
 
 const MAX_DIGITS: usize = 32;
@@ -23,8 +25,10 @@ impl Encoding {
 fn fixed_number(bytes: &[u8]) -> Option<i64>
     ensures { result ≡ fixed_in bytes.now }
 {
-    let bytes: [u8; 8] = bytes.try_into().ok()?;
-    Some(i64::from_be_bytes(bytes))
+    if bytes.len() != FIXED_SIZE {
+        return None;
+    }
+    Some(BigEndian::read_u64(bytes).cast_signed())
 }
 
 fn decimal_number(bytes: &[u8]) -> Option<i64>

@@ -3,6 +3,7 @@ ghost use Rattle.std.specs.Prelude.{◌≡◌, ◌≤◌, [], length};
 ghost use Rattle.number_values.specs.Numbers.{text_of};
 
 use crate::op::Encoding;
+use byte_fields::u64_bytes;
 use itoa::Buffer;
 use std::marker::Model;
 
@@ -42,7 +43,7 @@ impl NumberText {
         ensures { self.new ≡ text_of encoding number }
     {
         match encoding {
-            Encoding::Fixed => self.set(&number.to_be_bytes()),
+            Encoding::Fixed => self.set(&u64_bytes(number.cast_unsigned())),
             Encoding::String => self.set(Buffer::new().format(number).as_bytes()),
         }
     }

@@ -1,7 +1,8 @@
 //! Images and cursors over files.
 ghost use Rattle.std.specs.Prelude.{◌≡◌, ◌≤◌, true, false, length, option_map};
 ghost use Rattle.cell_key.specs.Views.{cell_of};
-ghost use Rattle.sorted_file.specs.Lists.{is_out_of_order, longest_value};
+ghost use Rattle.iter_contract.specs.Following.{is_out_of_order};
+ghost use Rattle.sorted_file.specs.Lists.{longest_value};
 
 use crate::fixtures::{key, leaves, range};
 use cell_key::{Bound, ByteText, EntryRef, KeyRef, NoMemory, compare_entries};

@@ -6,11 +6,14 @@ use Rattle.std.specs.Option.{option_to_list}
 use Rattle.std.specs.Result.{result_unwrap_or}
 use Rattle.std.proofs.lemmas.List.{append-nil}
 use Rattle.std.proofs.lemmas.List.Concat.{flat_map-append, flat_map-cons}
-use Rattle.std.specs.Int.{w64, to_be_bytes}
+use Rattle.byteorder.specs.Endian.{big_bytes}
 use Rattle.tablet_model.specs.Cell.{Cell}
 use Rattle.tablet_model.specs.Sorted.{Ascends}
+use Rattle.byte_fields.proofs.Fields.{spot}
+use Rattle.iter_contract.specs.Following.{is_out_of_order}
+use Rattle.iter_contract.proofs.Following.{ascends_follows}
 use Rattle.sorted_file.specs.Image.{magic, version, end_mark, end_magic, entry_bytes, entries_bytes, block_start, blocks_from, block_places, index_bytes, image_of}
-use Rattle.sorted_file.specs.Lists.{is_out_of_order, IsFileEntry, IsFileList}
+use Rattle.sorted_file.specs.Lists.{IsFileEntry, IsFileList}
 use Rattle.sorted_file.specs.Reading.{entries_at}
 use Rattle.sorted_file.specs.Answers.{list_in}
 use Rattle.sorted_file.specs.BuilderParts.{entries_read, begun_list, built_list, IsBuilt}
@@ -18,8 +21,7 @@ use Rattle.sorted_file.specs.FileParts.{file_list, IsFile}
 use Rattle.sorted_file.specs.declared.builder.FileBuilder.TheInside as builder
 use Rattle.sorted_file.specs.declared.file.SortedFile.TheInside as file
 use Rattle.sorted_file.specs.declared.fault.Fault.{Fault}
-use Rattle.sorted_file.proofs.Fields.{spot}
-use Rattle.sorted_file.proofs.Orders.{ascends_follows, file_list_push}
+use Rattle.sorted_file.proofs.Orders.{file_list_push}
 use Rattle.sorted_file.proofs.Images.{length_list, entries_again}
 use Rattle.sorted_file.proofs.ImageLaws.{image_again}
 
@@ -110,17 +112,17 @@ is_file f list image is blocks count =
 whole : (h k i n z : List ℕ) → (((h ++ k) ++ i) ++ n) ++ z ≡ h ++ (((k ++ i) ++ n) ++ z)
 whole h k i n z = simp append_assoc
 
-finished_image : (list : List Cell) → (((((magic ++ version) ++ entries_bytes list) ++ end_mark) ++ index_bytes (block_places list)) ++ to_be_bytes w64 (length list)) ++ end_magic ≡ image_of list
+finished_image : (list : List Cell) → (((((magic ++ version) ++ entries_bytes list) ++ end_mark) ++ index_bytes (block_places list)) ++ big_bytes 8 (length list)) ++ end_magic ≡ image_of list
 unfolding image_of
-finished_image list = whole ((magic ++ version) ++ entries_bytes list) end_mark (index_bytes (block_places list)) (to_be_bytes w64 (length list)) end_magic
+finished_image list = whole ((magic ++ version) ++ entries_bytes list) end_mark (index_bytes (block_places list)) (big_bytes 8 (length list)) end_magic
 
 -- the file that a builder finishes, part by part
 pub finished : (b : builder.Inside) → IsBuilt b → (marked indexed numbered : List ℕ) (f : file.Inside) → marked ≡ b.bytes ++ end_mark → indexed ≡ marked ++ index_bytes b.blocks.items
-    → numbered ≡ indexed ++ to_be_bytes w64 b.count → f.bytes ≡ numbered ++ end_magic → f.blocks.items ≡ b.blocks.items → f.count ≡ b.count → IsFile f × (file_list f ≡ built_list b)
+    → numbered ≡ indexed ++ big_bytes 8 b.count → f.bytes ≡ numbered ++ end_magic → f.blocks.items ≡ b.blocks.items → f.count ≡ b.count → IsFile f × (file_list f ≡ built_list b)
 finished b is marked indexed numbered f m i n e blocks count =
     let list : List Cell = built_list b in
     let head : List ℕ = (magic ++ version) ++ entries_bytes list in
     let m' : marked ≡ head ++ end_mark = m ∙ ap (λ (r : List ℕ). r ++ end_mark) is.image in
     let i' : indexed ≡ (head ++ end_mark) ++ index_bytes (block_places list) = i ∙ ap (λ (r : List ℕ). r ++ index_bytes b.blocks.items) m' ∙ ap (λ (r : List ℕ). (head ++ end_mark) ++ index_bytes r) is.blocks in
-    let n' : numbered ≡ ((head ++ end_mark) ++ index_bytes (block_places list)) ++ to_be_bytes w64 (length list) = n ∙ ap (λ (r : List ℕ). r ++ to_be_bytes w64 b.count) i' ∙ ap (λ (k : ℕ). ((head ++ end_mark) ++ index_bytes (block_places list)) ++ to_be_bytes w64 k) is.count in
+    let n' : numbered ≡ ((head ++ end_mark) ++ index_bytes (block_places list)) ++ big_bytes 8 (length list) = n ∙ ap (λ (r : List ℕ). r ++ big_bytes 8 b.count) i' ∙ ap (λ (k : ℕ). ((head ++ end_mark) ++ index_bytes (block_places list)) ++ big_bytes 8 k) is.count in
     is_file f list (e ∙ ap (λ (r : List ℕ). r ++ end_magic) n' ∙ finished_image list) is.list (blocks ∙ is.blocks) (count ∙ is.count)

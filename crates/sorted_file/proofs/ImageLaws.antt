@@ -1,47 +1,49 @@
 -- The two laws of images: each is read as its list, and what is read is the image of what was read.
-use Rattle.std.proofs.Common.{◌≡◌, ℕ, ◌+◌, ◌<◌, cond, eqb, List, [], ◌++◌, length, None, Result, Ok, sym, ap, subst, ◌∙◌, append_assoc, length-append, arith, All, inl, inr}
-use Rattle.std.specs.Int.{w64, to_be_bytes}
-use Rattle.std.proofs.lemmas.Bool.{eqb-true, cases_lt}
-use Rattle.std.proofs.lemmas.List.{append-nil, nil_from_length, get_or_past}
+use Rattle.std.proofs.Common.{◌≡◌, ℕ, ◌+◌, ◌<◌, cond, eqb, List, [], ◌++◌, length, None, Result, Ok, Err, sym, ap, subst, ◌∙◌, append_assoc, length-append, arith}
+use Rattle.byteorder.specs.Endian.{big_bytes}
+use Rattle.std.proofs.lemmas.Bool.{eqb-true}
+use Rattle.std.proofs.lemmas.List.{append-nil, nil_from_length}
 use Rattle.tablet_model.specs.Cell.{Cell}
+use Rattle.byte_fields.specs.Fields.{◌>>=◌, Unread}
+use Rattle.byte_fields.proofs.Fields.{bind_ok, then_ok, ok_is, IsBytes, spot, Takes, Takes-then}
+use Rattle.iter_contract.proofs.Following.{ascends_follows, follows_ascends}
 use Rattle.sorted_file.specs.Image.{magic, version, end_mark, end_magic, entries_bytes, block_places, index_bytes, image_of}
 use Rattle.sorted_file.specs.Lists.{IsFileList}
-use Rattle.sorted_file.specs.Reading.{◌>>=◌, Unread, fault, expected_at, head_at, entries_at, index_at, footer_at, image_reading}
+use Rattle.sorted_file.specs.Reading.{fault, expected_at, head_at, entries_at, index_at, footer_at, image_reading}
 use Rattle.sorted_file.specs.declared.fault.Fault.{Fault}
 use Rattle.sorted_file.specs.declared.fault.ImageCause.TheVariants.{Magic, Version, Tail}
-use Rattle.sorted_file.proofs.Fields.{bind_ok, then_ok, ok_is, IsBytes, spot, Takes, Takes-then, expected_again, expected_take}
-use Rattle.sorted_file.proofs.Orders.{ascends_follows, follows_ascends}
+use Rattle.sorted_file.proofs.Parts.{expected_again, expected_take}
 use Rattle.sorted_file.proofs.Images.{length_list, entries_again, entries_take, index_again, index_take}
 
 -- ---- what stands behind the entries
 
 -- behind the end mark
 abbrev pub rest_bytes : List Cell → List ℕ
-rest_bytes list = index_bytes (block_places list) ++ (to_be_bytes w64 (length list) ++ end_magic)
+rest_bytes list = index_bytes (block_places list) ++ (big_bytes 8 (length list) ++ end_magic)
 
-footer_again : (places : List ℕ) (count at : ℕ) → (end : ℕ) × (footer_at places count (spot at (index_bytes places ++ (to_be_bytes w64 count ++ end_magic))) ≡ Ok (spot end []))
+footer_again : (places : List ℕ) (count at : ℕ) → (end : ℕ) × (footer_at places count (spot at (index_bytes places ++ (big_bytes 8 count ++ end_magic))) ≡ Ok (spot end []))
 unfolding footer_at
 footer_again places count at =
     let index : ℕ = at + length (index_bytes places) in
-    let number : List ℕ = to_be_bytes w64 count in
+    let number : List ℕ = big_bytes 8 count in
     let end : expected_at Tail end_magic (spot (index + length number) end_magic) ≡ Ok (spot (index + length number + 4) []) = expected_again Tail end_magic (index + length number) [] in (
       index + length number + 4,
-      ap (λ (r : Result Unread Fault). r >>= λ u. expected_at Tail number u >>= λ v. expected_at Tail end_magic v >>= λ w. cond (eqb (length w.rest) 0) (Ok w) (fault Tail w.at)) (index_again places at (number ++ end_magic))
-          ∙ ap (λ (r : Result Unread Fault). r >>= λ v. expected_at Tail end_magic v >>= λ w. cond (eqb (length w.rest) 0) (Ok w) (fault Tail w.at)) (expected_again Tail number index end_magic)
-          ∙ ap (λ (r : Result Unread Fault). r >>= λ w. cond (eqb (length w.rest) 0) (Ok w) (fault Tail w.at)) end,
+      ap (λ (r : Result Unread Fault). r >>= λ u. expected_at Tail number u >>= λ v. expected_at Tail end_magic v >>= λ w. cond (eqb (length w.rest) 0) (Ok w) (Err (fault Tail w.at))) (index_again places at (number ++ end_magic))
+          ∙ ap (λ (r : Result Unread Fault). r >>= λ v. expected_at Tail end_magic v >>= λ w. cond (eqb (length w.rest) 0) (Ok w) (Err (fault Tail w.at))) (expected_again Tail number index end_magic)
+          ∙ ap (λ (r : Result Unread Fault). r >>= λ w. cond (eqb (length w.rest) 0) (Ok w) (Err (fault Tail w.at))) end,
     )
 
-footer_take : (places : List ℕ) (count : ℕ) (u v : Unread) → IsBytes u.rest → footer_at places count u ≡ Ok v → u.rest ≡ index_bytes places ++ (to_be_bytes w64 count ++ end_magic)
+footer_take : (places : List ℕ) (count : ℕ) (u v : Unread) → IsBytes u.rest → footer_at places count u ≡ Ok v → u.rest ≡ index_bytes places ++ (big_bytes 8 count ++ end_magic)
 unfolding footer_at
 footer_take places count u v fits e =
-    let number : List ℕ = to_be_bytes w64 count in
-    let a = bind_ok (index_at places u) (λ r. expected_at Tail number r >>= λ w. expected_at Tail end_magic w >>= λ z. cond (eqb (length z.rest) 0) (Ok z) (fault Tail z.at)) v e in
+    let number : List ℕ = big_bytes 8 count in
+    let a = bind_ok (index_at places u) (λ r. expected_at Tail number r >>= λ w. expected_at Tail end_magic w >>= λ z. cond (eqb (length z.rest) 0) (Ok z) (Err (fault Tail z.at))) v e in
     let a' = index_take places u a.0 fits a.1 in
-    let b = bind_ok (expected_at Tail number a.0) (λ w. expected_at Tail end_magic w >>= λ z. cond (eqb (length z.rest) 0) (Ok z) (fault Tail z.at)) v a.2 in
+    let b = bind_ok (expected_at Tail number a.0) (λ w. expected_at Tail end_magic w >>= λ z. cond (eqb (length z.rest) 0) (Ok z) (Err (fault Tail z.at))) v a.2 in
     let b' = expected_take Tail number a.0 b.0 a'.rest_fits b.1 in
-    let d = bind_ok (expected_at Tail end_magic b.0) (λ z. cond (eqb (length z.rest) 0) (Ok z) (fault Tail z.at)) v b.2 in
+    let d = bind_ok (expected_at Tail end_magic b.0) (λ z. cond (eqb (length z.rest) 0) (Ok z) (Err (fault Tail z.at))) v b.2 in
     let d' = expected_take Tail end_magic b.0 d.0 b'.rest_fits d.1 in
-    let g = then_ok (eqb (length d.0.rest) 0) (record { at = d.0.at; cause = Tail }) (Ok d.0) v d.2 in
+    let g = then_ok (eqb (length d.0.rest) 0) (fault Tail d.0.at) (Ok d.0) v d.2 in
     let nothing : d.0.rest ≡ [] = nil_from_length d.0.rest (eqb-true _ _ g.0) in
     let end : b.0.rest ≡ end_magic = d'.parts ∙ ap (λ (r : List ℕ). end_magic ++ r) nothing ∙ append-nil end_magic in
     a'.parts ∙ ap (λ (r : List ℕ). index_bytes places ++ r) (b'.parts ∙ ap (λ (r : List ℕ). number ++ r) end)
@@ -53,7 +55,7 @@ grouped m v e k i c z = simp append_assoc
 
 pub image_is : (list : List Cell) → image_of list ≡ magic ++ (version ++ (entries_bytes list ++ (end_mark ++ rest_bytes list)))
 unfolding image_of
-image_is list = grouped magic version (entries_bytes list) end_mark (index_bytes (block_places list)) (to_be_bytes w64 (length list)) end_magic
+image_is list = grouped magic version (entries_bytes list) end_mark (index_bytes (block_places list)) (big_bytes 8 (length list)) end_magic
 
 few : (list : List Cell) → length list < length (image_of list)
 few list =
@@ -110,10 +112,3 @@ image_take bytes list fits e =
     let v' = head_take (spot 0 bytes) v.0 fits v.1 in
     let b = body_take bytes v.0 list v'.rest_fits v.2 in
     (image_is list ∙ sym (v'.parts ∙ ap (λ (r : List ℕ). (magic ++ version) ++ r) b.0), b.1)
-
-pub bytes_of : (bytes : List ℕ) → All (λ b. b < 256) bytes → IsBytes bytes
-bytes_of bytes h i =
-    elim (cases_lt i (length bytes)) [
-      | inl lt ↦ h i 0 lt
-      | inr le ↦ rw (get_or_past bytes i 0 le) (omega arith)
-    ]

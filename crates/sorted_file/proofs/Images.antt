@@ -1,19 +1,23 @@
 -- An image is read as its list, and what is read is the image of what was read.
-use Rattle.std.proofs.Common.{◌≡◌, ℕ, zero, suc, ◌+◌, ◌^◌, ◌<◌, ◌≤◌, Bool, true, false, cond, eqb, List, [], ◌∷◌, ◌++◌, length, Option, Some, Result, Ok, refl, sym, ap, subst, ◌∙◌, append_assoc, length-append, arith}
-use Rattle.std.specs.Int.{w16, w64, to_be_bytes}
-use Rattle.std.specs.List.{AllByRecursion, flat_map}
+use Rattle.std.proofs.Common.{◌≡◌, ℕ, zero, suc, ◌+◌, ◌^◌, ◌<◌, ◌≤◌, Bool, true, false, cond, eqb, List, [], ◌∷◌, ◌++◌, length, Option, Some, Result, Ok, Err, refl, sym, ap, subst, ◌∙◌, append_assoc, length-append, arith}
+use Rattle.std.specs.Int.{w64, cast_unsigned}
+use Rattle.std.specs.List.{AllByRecursion}
 use Rattle.std.proofs.lemmas.Bool.{eqb-true}
 use Rattle.std.proofs.lemmas.Bool.Decides.{nat_tests}
 use Rattle.std.proofs.lemmas.List.Concat.{flat_map-cons}
+use Rattle.byteorder.specs.Endian.{big_bytes}
 use Rattle.tablet_model.specs.Cell.{Cell}
+use Rattle.byte_fields.specs.Fields.{◌>>=◌, Unread, number_at}
+use Rattle.byte_fields.proofs.Fields.{bind_ok, else_ok, ok_is, told_ok, IsBytes, spot, Takes, Takes-then, wide2, number_again, number_take}
+use Rattle.iter_contract.specs.Following.{is_out_of_order}
+use Rattle.iter_contract.proofs.Following.{Follows}
 use Rattle.sorted_file.specs.Image.{end_mark, part_bytes, flag_bytes, value_bytes, key_bytes, entry_bytes, entries_bytes, index_bytes}
-use Rattle.sorted_file.specs.Lists.{is_out_of_order, IsFileEntry}
-use Rattle.sorted_file.specs.Reading.{◌>>=◌, Unread, fault, number_at, expected_at, entry_at, next_entry_at, entries_at, index_at}
+use Rattle.sorted_file.specs.Lists.{IsFileEntry}
+use Rattle.sorted_file.specs.Reading.{fault, uncut, expected_at, entry_at, next_entry_at, entries_at, index_at}
 use Rattle.sorted_file.specs.declared.fault.Fault.{Fault}
-use Rattle.sorted_file.specs.declared.fault.ImageCause.TheVariants.{Order, Index}
-use Rattle.sorted_file.proofs.Fields.{bind_ok, else_ok, ok_is, IsBytes, spot, Takes, Takes-then, expected_again, expected_take, wide16, number_again, number_take}
+use Rattle.sorted_file.specs.declared.fault.ImageCause.TheVariants.{Length, Order, Index}
+use Rattle.sorted_file.proofs.Parts.{expected_again, expected_take}
 use Rattle.sorted_file.proofs.Entries.{entry_again, entry_take}
-use Rattle.sorted_file.proofs.Orders.{Follows}
 
 -- ---- the front of an entry
 
@@ -29,18 +33,18 @@ front : (n row f q v t d w rest : List ℕ) → ((((((n ++ row) ++ f) ++ q) ++ v
 front n row f q v t d w rest = simp append_assoc
 
 -- an entry begins with the length of its row
-row_first : (e : Cell) (at : ℕ) (rest : List ℕ) → IsFileEntry e → (v : Unread) × (number_at w16 (spot at (entry_bytes e ++ rest)) ≡ Ok (length e.key.row, v))
+row_first : (e : Cell) (at : ℕ) (rest : List ℕ) → IsFileEntry e → (v : Unread) × (number_at 2 (spot at (entry_bytes e ++ rest)) ≡ Ok (length e.key.row, v))
 unfolding entry_bytes key_bytes
 row_first e at rest is =
-    let n = to_be_bytes w16 (length e.key.row) in
+    let n = big_bytes 2 (length e.key.row) in
     let f = part_bytes e.key.family in
     let q = part_bytes e.key.qualifier in
     let v = part_bytes e.key.visibility in
-    let t = to_be_bytes w64 (Rattle.std.specs.Int.cast_unsigned w64 e.key.time) in
+    let t = big_bytes 8 (cast_unsigned w64 e.key.time) in
     let d = flag_bytes e.key.deleted in
     let w = value_bytes e.value in
     let behind : List ℕ = e.key.row ++ (f ++ (q ++ (v ++ (t ++ (d ++ (w ++ rest)))))) in
-    (spot (at + 2) behind, ap (λ (bytes : List ℕ). number_at w16 (spot at bytes)) (front n e.key.row f q v t d w rest) ∙ number_again w16 (2 ^ 16) wide16 (length e.key.row) (omega (arith, is.0.0.1)) at behind)
+    (spot (at + 2) behind, ap (λ (bytes : List ℕ). number_at 2 (spot at bytes)) (front n e.key.row f q v t d w rest) ∙ number_again 2 (2 ^ 16) wide2 (length e.key.row) (omega (arith, is.0.0.1)) at behind)
 
 -- ---- entries up to the end mark
 
@@ -57,7 +61,7 @@ pub entries_again : (most : ℕ) (before : Option Cell) (list : List Cell) (at :
     → entries_at most before (spot at (entries_bytes list ++ (end_mark ++ rest))) ≡ Ok (list, spot (at + (length (entries_bytes list) + 2)) rest)
 unfolding entries_at
 entries_again zero before list at rest few f is = absurd (omega arith)
-entries_again (suc most) before [] at rest few f is = rw (number_again w16 (2 ^ 16) wide16 0 (omega arith) at rest) refl
+entries_again (suc most) before [] at rest few f is = rw (number_again 2 (2 ^ 16) wide2 0 (omega arith) at rest) refl
 entries_again (suc most) before (e ∷ es) at rest few f is =
     let tail : List ℕ = entries_bytes es ++ (end_mark ++ rest) in
     let bytes : entries_bytes (e ∷ es) ++ (end_mark ++ rest) ≡ entry_bytes e ++ tail = ap (λ (b : List ℕ). b ++ (end_mark ++ rest)) (flat_map-cons entry_bytes e es) ∙ append_assoc (entry_bytes e) (entries_bytes es) (end_mark ++ rest) in
@@ -72,8 +76,8 @@ pub next_take : (before : Option Cell) (u : Unread) (x : Cell × Unread) → IsB
     → Takes u (entry_bytes x.0) x.1 × IsFileEntry x.0 × (is_out_of_order before x.0 ≡ false)
 unfolding next_entry_at
 next_take before u x fits e =
-    let b = bind_ok (entry_at u) (λ entry. cond (is_out_of_order before entry.0) (fault Order u.at) (Ok entry)) x e in
-    let g = else_ok (is_out_of_order before b.0.0) (record { at = u.at; cause = Order }) (Ok b.0) x b.2 in
+    let b = bind_ok (entry_at u) (λ entry. cond (is_out_of_order before entry.0) (Err (fault Order u.at)) (Ok entry)) x e in
+    let g = else_ok (is_out_of_order before b.0.0) (fault Order u.at) (Ok b.0) x b.2 in
     let t = entry_take u b.0 fits b.1 in
     subst (λ (y : Cell × Unread). Takes u (entry_bytes y.0) y.1 × IsFileEntry y.0 × (is_out_of_order before y.0 ≡ false)) (ok_is b.0 x g.1) (t.0, t.1, g.0)
 
@@ -83,8 +87,8 @@ pub record AreRead (before : Option Cell) (u : Unread) (x : List Cell × Unread)
   pub follow : Follows before x.0
   pub entries : AllByRecursion IsFileEntry x.0
 
-no_entry : (before : Option Cell) (u : Unread) (n : ℕ × Unread) → n.0 ≡ 0 → Takes u (to_be_bytes w16 n.0) n.1 → AreRead before u ([], n.1)
-no_entry before u n is t = record { taken = subst (λ (k : ℕ). Takes u (to_be_bytes w16 k) n.1) is t; follow = tt; entries = tt }
+no_entry : (before : Option Cell) (u : Unread) (n : ℕ × Unread) → n.0 ≡ 0 → Takes u (big_bytes 2 n.0) n.1 → AreRead before u ([], n.1)
+no_entry before u n is t = record { taken = subst (λ (k : ℕ). Takes u (big_bytes 2 k) n.1) is t; follow = tt; entries = tt }
 
 one_more : (before : Option Cell) (u : Unread) (a : Cell × Unread) (b : List Cell × Unread) → Takes u (entry_bytes a.0) a.1 → IsFileEntry a.0 → is_out_of_order before a.0 ≡ false
     → AreRead (Some a.0) a.1 b → AreRead before u (a.0 ∷ b.0, b.1)
@@ -99,7 +103,7 @@ one_more before u a b t is ordered r = record {
 abbrev pub behind_length : ℕ → Option Cell → Unread → ℕ × Unread → Result (List Cell × Unread) Fault
 behind_length most before u n = cond (eqb n.0 0) (Ok ([], n.1)) (next_entry_at before u >>= λ entry. entries_at most (Some entry.0) entry.1 >>= λ entries. Ok (entry.0 ∷ entries.0, entries.1))
 
-by_length : (most : ℕ) (before : Option Cell) (u : Unread) (x : List Cell × Unread) (n : ℕ × Unread) → IsBytes u.rest → Takes u (to_be_bytes w16 n.0) n.1
+by_length : (most : ℕ) (before : Option Cell) (u : Unread) (x : List Cell × Unread) (n : ℕ × Unread) → IsBytes u.rest → Takes u (big_bytes 2 n.0) n.1
     → ((before : Option Cell) (u : Unread) (x : List Cell × Unread) → IsBytes u.rest → entries_at most before u ≡ Ok x → AreRead before u x)
     → (b : Bool) → eqb n.0 0 ≡ b
     → cond b (Ok ([], n.1)) (next_entry_at before u >>= λ entry. entries_at most (Some entry.0) entry.1 >>= λ entries. Ok (entry.0 ∷ entries.0, entries.1)) ≡ Ok x → AreRead before u x
@@ -114,8 +118,8 @@ pub entries_take : (most : ℕ) (before : Option Cell) (u : Unread) (x : List Ce
 unfolding entries_at
 entries_take zero before u x fits e = absurd cc
 entries_take (suc most) before u x fits e =
-    let n = bind_ok (number_at w16 u) (behind_length most before u) x e in
-    by_length most before u x n.0 fits (number_take w16 (2 ^ 16) wide16 u n.0 fits n.1).0 (λ before u x fits e. entries_take most before u x fits e) (eqb n.0.0 0) refl n.2
+    let n = bind_ok (uncut (number_at 2 u)) (behind_length most before u) x e in
+    by_length most before u x n.0 fits (number_take 2 (2 ^ 16) wide2 u n.0 fits (told_ok (fault Length) (number_at 2 u) n.0 n.1)).0 (λ before u x fits e. entries_take most before u x fits e) (eqb n.0.0 0) refl n.2
 
 -- ---- the index and the end
 
@@ -123,9 +127,9 @@ pub index_again : (places : List ℕ) (at : ℕ) (rest : List ℕ) → index_at 
 unfolding index_at
 index_again [] at rest = let same : at ≡ at + 0 = omega arith in ap (λ (p : ℕ). Ok (spot p rest)) same
 index_again (place ∷ places) at rest =
-    let word : List ℕ = to_be_bytes w64 place in
-    let bytes : index_bytes (place ∷ places) ++ rest ≡ word ++ (index_bytes places ++ rest) = ap (λ (b : List ℕ). b ++ rest) (flat_map-cons (to_be_bytes w64) place places) ∙ append_assoc word (index_bytes places) rest in
-    let length_is : (at + length word) + length (index_bytes places) ≡ at + length (index_bytes (place ∷ places)) = omega (arith, ap length (flat_map-cons (to_be_bytes w64) place places), length-append word (index_bytes places)) in
+    let word : List ℕ = big_bytes 8 place in
+    let bytes : index_bytes (place ∷ places) ++ rest ≡ word ++ (index_bytes places ++ rest) = ap (λ (b : List ℕ). b ++ rest) (flat_map-cons (big_bytes 8) place places) ∙ append_assoc word (index_bytes places) rest in
+    let length_is : (at + length word) + length (index_bytes places) ≡ at + length (index_bytes (place ∷ places)) = omega (arith, ap length (flat_map-cons (big_bytes 8) place places), length-append word (index_bytes places)) in
     ap (λ (b : List ℕ). index_at (place ∷ places) (spot at b)) bytes
     ∙ ap (λ (r : Result Unread Fault). r >>= index_at places) (expected_again Index word at (index_bytes places ++ rest))
     ∙ index_again places (at + length word) rest ∙ ap (λ (p : ℕ). Ok (spot p rest)) length_is
@@ -134,7 +138,7 @@ pub index_take : (places : List ℕ) (u v : Unread) → IsBytes u.rest → index
 unfolding index_at
 index_take [] u v fits e = subst (Takes u []) (ok_is u v e) (record { parts = refl; place = omega arith; rest_fits = fits })
 index_take (place ∷ places) u v fits e =
-    let a = bind_ok (expected_at Index (to_be_bytes w64 place) u) (index_at places) v e in
-    let first = expected_take Index (to_be_bytes w64 place) u a.0 fits a.1 in
-    subst (λ (text : List ℕ). Takes u text v) (sym (flat_map-cons (to_be_bytes w64) place places))
-    (Takes-then u (to_be_bytes w64 place) a.0 (index_bytes places) v first (index_take places a.0 v first.rest_fits a.2))
+    let a = bind_ok (expected_at Index (big_bytes 8 place) u) (index_at places) v e in
+    let first = expected_take Index (big_bytes 8 place) u a.0 fits a.1 in
+    subst (λ (text : List ℕ). Takes u text v) (sym (flat_map-cons (big_bytes 8) place places))
+    (Takes-then u (big_bytes 8 place) a.0 (index_bytes places) v first (index_take places a.0 v first.rest_fits a.2))

@@ -3,7 +3,8 @@ use Rattle.std.proofs.Common.{◌≡◌, ℕ, zero, suc, ◌+◌, ◌-◌, ◌<�
 use Rattle.std.specs.Prelude.{slice_range}
 use Rattle.std.proofs.Math.Seq.{take-append_seam}
 use Rattle.std.proofs.lemmas.List.{drop_at, drop-drop}
-use Rattle.std.specs.Int.{w16, w32, w64, to_be_bytes, cast_unsigned}
+use Rattle.std.specs.Int.{w64, cast_unsigned}
+use Rattle.byteorder.specs.Endian.{big_bytes}
 use Rattle.tablet_model.specs.Cell.{Cell}
 use Rattle.tablet_model.specs.Bounds.{IsEntry}
 use Rattle.sorted_file.specs.Image.{part_bytes, flag_bytes, value_bytes, key_bytes, entry_bytes, entry_place, footer_bytes, entries_bytes, image_of}
@@ -38,8 +39,8 @@ one_flag true = refl
 one_flag false = refl
 
 -- the time and the flag
-fixed_length : (e : Cell) → length (to_be_bytes w64 (cast_unsigned w64 e.key.time) ++ flag_bytes e.key.deleted) ≡ 9
-fixed_length e = omega (arith, length-append (to_be_bytes w64 (cast_unsigned w64 e.key.time)) (flag_bytes e.key.deleted), one_flag e.key.deleted)
+fixed_length : (e : Cell) → length (big_bytes 8 (cast_unsigned w64 e.key.time) ++ flag_bytes e.key.deleted) ≡ 9
+fixed_length e = omega (arith, length-append (big_bytes 8 (cast_unsigned w64 e.key.time)) (flag_bytes e.key.deleted), one_flag e.key.deleted)
 
 entry_length : (e : Cell) (at : ℕ) → at + length (entry_bytes e) ≡ (outline_of at e).value_end
 unfolding entry_bytes key_bytes
@@ -48,7 +49,7 @@ entry_length e at =
     let f = part_bytes e.key.family in
     let q = part_bytes e.key.qualifier in
     let v = part_bytes e.key.visibility in
-    let t = to_be_bytes w64 (cast_unsigned w64 e.key.time) in
+    let t = big_bytes 8 (cast_unsigned w64 e.key.time) in
     let d = flag_bytes e.key.deleted in
     let w = value_bytes e.value in
     omega (arith, length-append (((((r ++ f) ++ q) ++ v) ++ t) ++ d) w, length-append ((((r ++ f) ++ q) ++ v) ++ t) d, length-append (((r ++ f) ++ q) ++ v) t, length-append ((r ++ f) ++ q) v, length-append (r ++ f) q, length-append r f, one_flag e.key.deleted)
@@ -58,17 +59,17 @@ parts : (bytes : List ℕ) (at : ℕ) (e : Cell) (rest : List ℕ) → drop at b
 unfolding entry_bytes key_bytes
 parts bytes at e rest h within fits =
     let o = outline_of at e in
-    let time : List ℕ = to_be_bytes w64 (cast_unsigned w64 e.key.time) in
+    let time : List ℕ = big_bytes 8 (cast_unsigned w64 e.key.time) in
     let flag : List ℕ = flag_bytes e.key.deleted in
     let value : List ℕ = value_bytes e.value ++ rest in
     let visibility : List ℕ = part_bytes e.key.visibility ++ ((time ++ flag) ++ value) in
     let qualifier : List ℕ = part_bytes e.key.qualifier ++ visibility in
     let family : List ℕ = part_bytes e.key.family ++ qualifier in
-    let r = sized bytes at 2 (to_be_bytes w16 (length e.key.row)) e.key.row family (h ∙ front (part_bytes e.key.row) (part_bytes e.key.family) (part_bytes e.key.qualifier) (part_bytes e.key.visibility) time flag (value_bytes e.value) rest) refl in
-    let f = sized bytes o.row_end 2 (to_be_bytes w16 (length e.key.family)) e.key.family qualifier r.1 refl in
-    let q = sized bytes o.family_end 2 (to_be_bytes w16 (length e.key.qualifier)) e.key.qualifier visibility f.1 refl in
-    let v = sized bytes o.qualifier_end 2 (to_be_bytes w16 (length e.key.visibility)) e.key.visibility ((time ++ flag) ++ value) q.1 refl in
-    let w = sized bytes (o.visibility_end + 9) 4 (to_be_bytes w32 (length e.value)) e.value rest (field bytes o.visibility_end 9 (time ++ flag) value v.1 (fixed_length e)) refl in
+    let r = sized bytes at 2 (big_bytes 2 (length e.key.row)) e.key.row family (h ∙ front (part_bytes e.key.row) (part_bytes e.key.family) (part_bytes e.key.qualifier) (part_bytes e.key.visibility) time flag (value_bytes e.value) rest) refl in
+    let f = sized bytes o.row_end 2 (big_bytes 2 (length e.key.family)) e.key.family qualifier r.1 refl in
+    let q = sized bytes o.family_end 2 (big_bytes 2 (length e.key.qualifier)) e.key.qualifier visibility f.1 refl in
+    let v = sized bytes o.qualifier_end 2 (big_bytes 2 (length e.key.visibility)) e.key.visibility ((time ++ flag) ++ value) q.1 refl in
+    let w = sized bytes (o.visibility_end + 9) 4 (big_bytes 4 (length e.value)) e.value rest (field bytes o.visibility_end 9 (time ++ flag) value v.1 (fixed_length e)) refl in
     let start : (o.visibility_end + 9) + 4 ≡ o.visibility_end + 13 = omega arith in
     record {
       row_from = omega arith;

@@ -1,5 +1,4 @@
 pub mod Examples
-pub mod Fields
 pub mod Parts
 pub mod Entries
 pub mod Orders

@@ -1,17 +1,17 @@
 -- What the reading of a whole image comes to, part by part.
-use Rattle.std.proofs.Common.{◌≡◌, ℕ, zero, suc, ◌<◌, ◌≤◌, List, [], ◌∷◌, ◌++◌, length, All, None, Result, Ok, Err, refl, sym, ap, subst, ◌∙◌, length-append, arith}
+use Rattle.std.proofs.Common.{◌≡◌, ℕ, ◌≤◌, List, [], ◌++◌, length, None, Result, Ok, Err, refl, sym, ap, subst, ◌∙◌, length-append, arith}
 use Rattle.std.specs.Prelude.{IsErrAnd}
-use Rattle.std.proofs.lemmas.List.{get_or_default}
 use Rattle.std.specs.Result.{result_unwrap_or}
 use Rattle.tablet_model.specs.Cell.{Cell}
+use Rattle.byte_fields.specs.Fields.{Unread}
+use Rattle.byte_fields.proofs.Fields.{bind_ok, ok_is, IsBytes, spot}
 use Rattle.sorted_file.specs.Image.{magic, version, blocks_from, block_places, image_of}
 use Rattle.sorted_file.specs.Lists.{IsFileList}
 use Rattle.sorted_file.specs.Answers.{Opens, count_in, counted, list_in}
-use Rattle.sorted_file.specs.Reading.{Unread, head_at, entries_at, footer_at, image_reading}
+use Rattle.sorted_file.specs.Reading.{head_at, entries_at, footer_at, image_reading}
 use Rattle.sorted_file.specs.declared.fault.Fault.{Fault}
 use Rattle.sorted_file.specs.declared.fault.OpenError.{OpenError}
 use Rattle.sorted_file.specs.declared.fault.OpenError.TheVariants.{Image, NoMemory}
-use Rattle.sorted_file.proofs.Fields.{bind_ok, ok_is, IsBytes, spot}
 use Rattle.sorted_file.specs.FileParts.{file_list, IsFile}
 use Rattle.sorted_file.specs.declared.file.SortedFile.TheInside.{Inside}
 use Rattle.sorted_file.proofs.Building.{is_file}
@@ -32,14 +32,6 @@ pub head_is : (bytes : List ℕ) (v : Unread) → IsBytes bytes → head_at (spo
 head_is bytes v fits e =
     let t = head_take (spot 0 bytes) v fits e in
     (omega (arith, ap length t.parts, length-append (magic ++ version) v.rest), t.rest_fits, t.place)
-
-pub all_bytes : (bytes : List ℕ) → IsBytes bytes → All (λ b. b < 256) bytes
-all_bytes bytes fits i d l = rw (get_or_default bytes i d 0 l) (fits i)
-
-pub in_bytes : (bytes : List ℕ) → All (λ b. b < 256) bytes → IsBytes bytes
-in_bytes [] all i = omega arith
-in_bytes (b ∷ bs) all zero = all zero b (omega arith)
-in_bytes (b ∷ bs) all (suc i) = in_bytes bs (λ j d l. all (suc j) d (omega arith)) i
 
 -- ---- the body
 

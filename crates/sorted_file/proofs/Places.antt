@@ -6,11 +6,12 @@ use Rattle.std.proofs.lemmas.List.Concat.{flat_map-append, flat_map-cons}
 use Rattle.tablet_model.specs.Cell.{Cell}
 use Rattle.tablet_model.specs.Bounds.{IsEntry, AreEntries}
 use Rattle.tablet_model.proofs.Sums.{all_weaker}
+use Rattle.byte_fields.specs.Fields.{Unread}
+use Rattle.byte_fields.proofs.Fields.{ok_is, spot}
 use Rattle.sorted_file.specs.Image.{magic, version, entry_bytes, entries_bytes, entry_place, footer_bytes, image_of}
 use Rattle.sorted_file.specs.Lists.{IsFileEntry, IsFileList}
-use Rattle.sorted_file.specs.Reading.{Unread, entry_at}
+use Rattle.sorted_file.specs.Reading.{entry_at}
 use Rattle.sorted_file.specs.declared.fault.Fault.{Fault}
-use Rattle.sorted_file.proofs.Fields.{ok_is, spot}
 use Rattle.sorted_file.proofs.Entries.{entry_again}
 
 -- a list around its entry i

@@ -3,15 +3,11 @@ use Rattle.std.specs.Prelude.{◌≡◌, ℕ, Result, Ok, Err, List, [], length,
 use Rattle.std.specs.Result.{result_unwrap_or}
 use Rattle.tablet_model.specs.Cell.{Cell}
 use Rattle.sorted_file.specs.Image.{blocks_from}
-use Rattle.sorted_file.specs.Reading.{◌>>=◌, Unread, image_reading}
+use Rattle.byte_fields.specs.Fields.{◌>>=◌, Unread}
+use Rattle.sorted_file.specs.Reading.{image_reading}
 use Rattle.sorted_file.specs.declared.fault.Fault.{Fault}
 use Rattle.sorted_file.specs.declared.fault.OpenError.{OpenError}
 use Rattle.sorted_file.specs.declared.fault.OpenError.TheVariants.{Image, NoMemory}
-use Rattle.sorted_file.specs.declared.input.Input.{Input}
-
--- what an input says
-abbrev pub unread_of : Input → Unread
-unread_of input = record { at = input.at; rest = input.rest.now }
 
 -- an answer, seen by view, is the reading
 abbrev pub Gives : {X Y : Type 0} → (X → Y) → Result X Fault → Result Y Fault → Type 0

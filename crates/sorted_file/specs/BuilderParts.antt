@@ -3,7 +3,8 @@ use Rattle.std.specs.Prelude.{◌≡◌, ℕ, List, [], ◌++◌, length, drop, 
 use Rattle.tablet_model.specs.Cell.{Cell}
 use Rattle.sorted_file.specs.Image.{magic, version, end_mark, entries_bytes, block_places}
 use Rattle.sorted_file.specs.Lists.{IsFileList}
-use Rattle.sorted_file.specs.Reading.{Unread, entries_at}
+use Rattle.byte_fields.specs.Fields.{Unread}
+use Rattle.sorted_file.specs.Reading.{entries_at}
 use Rattle.sorted_file.specs.declared.builder.FileBuilder.TheInside.{Inside}
 use Rattle.sorted_file.specs.declared.fault.Fault.{Fault}
 

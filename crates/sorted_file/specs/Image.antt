@@ -1,9 +1,11 @@
 -- The image of a sorted file, version 1: its bytes. All numbers are big-endian. The format is this project's own; that a sorted file
 -- has blocks of entries and an index of them is Accumulo's.
 use Rattle.std.specs.Prelude.{ℕ, ◌+◌, ◌%◌, Bool, ◌==◌, if◌then◌else◌, List, [], ◌∷◌, ◌++◌, length, take, codes}
-use Rattle.std.specs.Int.{w16, w32, w64, to_be_bytes, cast_unsigned}
+use Rattle.std.specs.Int.{w64, cast_unsigned}
 use Rattle.std.specs.List.{flat_map}
+use Rattle.byteorder.specs.Endian.{big_bytes}
 use Rattle.tablet_model.specs.Cell.{CellKey, Cell}
+use Rattle.byte_fields.specs.Fields.{sized_bytes}
 
 -- what an image begins with
 abbrev pub magic : List ℕ
@@ -23,7 +25,7 @@ end_magic = codes "FSTI"
 
 -- a part of a key: its length in two bytes, and its bytes
 abbrev pub part_bytes : List ℕ → List ℕ
-part_bytes part = to_be_bytes w16 (length part) ++ part
+part_bytes part = sized_bytes 2 part
 
 -- the byte that tells a delete marker from a live entry
 abbrev pub flag_bytes : Bool → List ℕ
@@ -31,13 +33,13 @@ flag_bytes deleted = if deleted then 1 ∷ [] else 0 ∷ []
 
 -- a value: its length in four bytes, and its bytes
 abbrev pub value_bytes : List ℕ → List ℕ
-value_bytes value = to_be_bytes w32 (length value) ++ value
+value_bytes value = sized_bytes 4 value
 
 -- a key: its parts, its time in eight bytes and its flag
 unfoldable pub key_bytes : CellKey → List ℕ
 key_bytes k =
     part_bytes k.row ++ part_bytes k.family ++ part_bytes k.qualifier ++ part_bytes k.visibility
-    ++ to_be_bytes w64 (cast_unsigned w64 k.time) ++ flag_bytes k.deleted
+    ++ big_bytes 8 (cast_unsigned w64 k.time) ++ flag_bytes k.deleted
 
 -- an entry: its key and its value
 unfoldable pub entry_bytes : Cell → List ℕ
@@ -66,11 +68,11 @@ block_places list = blocks_from 0 5 list
 
 -- the index: each block's place, in eight bytes
 abbrev pub index_bytes : List ℕ → List ℕ
-index_bytes places = flat_map (λ place. to_be_bytes w64 place) places
+index_bytes places = flat_map (λ place. big_bytes 8 place) places
 
 -- what stands behind the entries of an image
 abbrev pub footer_bytes : List Cell → List ℕ
-footer_bytes list = end_mark ++ index_bytes (block_places list) ++ to_be_bytes w64 (length list) ++ end_magic
+footer_bytes list = end_mark ++ index_bytes (block_places list) ++ big_bytes 8 (length list) ++ end_magic
 
 -- the one image of a list
 unfoldable pub image_of : List Cell → List ℕ

@@ -1,5 +1,5 @@
 -- Which lists have an image that is read. The bounds are this project's own.
-use Rattle.std.specs.Prelude.{ℕ, ◌≤◌, Bool, false, if◌then◌else◌, List, length, Option, Some, None}
+use Rattle.std.specs.Prelude.{ℕ, ◌≤◌, Bool, if◌then◌else◌, List, length, Option, None}
 use Rattle.std.specs.List.{AllByRecursion, last_or}
 use Rattle.tablet_model.specs.Limits.{max_value}
 use Rattle.tablet_model.specs.Cell.{Cell}
@@ -19,11 +19,6 @@ IsFileEntry e = IsEntry e × (length e.value ≤ longest_value e.key.deleted)
 pub record IsFileList (list : List Cell) : Type 0 where
   pub ascends : Ascends above list
   pub entries : AllByRecursion IsFileEntry list
-
--- whether an entry sorts before the one before it, if there is one
-abbrev pub is_out_of_order : Option Cell → Cell → Bool
-is_out_of_order None e = false
-is_out_of_order (Some before) e = above before e
 
 -- the last entry of a list
 abbrev pub last_of : List Cell → Option Cell

@@ -1,75 +1,51 @@
 -- How the bytes of an image are read, field by field: at each field first that it lies within the bytes, then its rule. The first
 -- fault is the answer. This is this project's own.
-use Rattle.std.specs.Prelude.{ℕ, zero, suc, ◌+◌, Bool, true, false, ◌||◌, ◌==◌, if◌then◌else◌, nat_lt, List, [], ◌∷◌, length, take, drop, slice_index, Option, Some, None, Result, Ok, Err}
-use Rattle.std.specs.Int.{Width, w16, w32, w64, byte_len, from_be_bytes, to_be_bytes, cast_signed}
+use Rattle.std.specs.Prelude.{ℕ, zero, suc, Bool, true, false, ◌||◌, ◌==◌, if◌then◌else◌, nat_lt, List, [], ◌∷◌, length, slice_index, Option, Some, None, Result, Ok, Err}
+use Rattle.std.specs.Int.{w64, cast_signed}
 use Rattle.std.specs.Str.{bytes_eq}
+use Rattle.byteorder.specs.Endian.{big_bytes}
 use Rattle.tablet_model.specs.Limits.{max_part}
 use Rattle.tablet_model.specs.Cell.{CellKey, Cell}
+use Rattle.byte_fields.specs.Fields.{◌>>=◌, Unread, bytes_at, number_at, told, sized_at}
 use Rattle.sorted_file.specs.Image.{magic, version, end_magic, block_places}
-use Rattle.sorted_file.specs.Lists.{longest_value, is_out_of_order}
+use Rattle.iter_contract.specs.Following.{is_out_of_order}
+use Rattle.sorted_file.specs.Lists.{longest_value}
 use Rattle.sorted_file.specs.declared.fault.Fault.{Fault}
 use Rattle.sorted_file.specs.declared.fault.ImageCause.{ImageCause}
 use Rattle.sorted_file.specs.declared.fault.ImageCause.TheVariants.{Length, Magic, Version, Bound, Order, Index, Tail}
 
--- the readings in a row of a `do` block: the first fault ends it
-infixl 10 ◌>>=◌
-abbrev pub ◌>>=◌ : {A B : Type 0} → Result A Fault → (A → Result B Fault) → Result B Fault
-(Ok x) >>= next = next x
-(Err fault) >>= next = Err fault
-
 -- a fault of this cause at this place
-abbrev pub fault : {A : Type 0} → ImageCause → ℕ → Result A Fault
-fault cause at = Err (record { at = at; cause = cause })
+abbrev pub fault : ImageCause → ℕ → Fault
+fault cause at = record { at = at; cause = cause }
 
--- what is not read yet: its place in the image, and the bytes from there on
-pub record Unread : Type 0 where
-  pub at : ℕ
-  pub rest : List ℕ
-
--- what follows n bytes
-abbrev pub behind : ℕ → Unread → Unread
-behind n u = record { at = u.at + n; rest = drop n u.rest }
-
--- a field of n bytes
-unfoldable pub bytes_at : ℕ → Unread → Result (List ℕ × Unread) Fault
-bytes_at n u = if nat_lt (length u.rest) n then fault Length u.at else Ok (take n u.rest, behind n u)
-
--- a field that is a number
-unfoldable pub number_at : Width → Unread → Result (ℕ × Unread) Fault
-number_at w u = do
-  bytes ← bytes_at (byte_len w) u
-  Ok (from_be_bytes w bytes.0, bytes.1)
+-- the reading of a field, which is a fault of its length where it is cut
+abbrev pub uncut : {A : Type 0} → Result A ℕ → Result A Fault
+uncut reading = told (fault Length) reading
 
 -- a field that can only be these bytes
 unfoldable pub expected_at : ImageCause → List ℕ → Unread → Result Unread Fault
 expected_at cause bytes u = do
-  found ← bytes_at (length bytes) u
-  if bytes_eq found.0 bytes then Ok found.1 else fault cause u.at
+  found ← uncut (bytes_at (length bytes) u)
+  if bytes_eq found.0 bytes then Ok found.1 else Err (fault cause u.at)
 
 -- a row: its length, 1 to 1,024, and its bytes
 unfoldable pub row_at : Unread → Result (List ℕ × Unread) Fault
-row_at u = do
-  n ← number_at w16 u
-  if n.0 == 0 || nat_lt max_part n.0 then fault Bound u.at else bytes_at n.0 n.1
+row_at u = sized_at (fault Length) (fault Bound) 2 (λ n. n == 0 || nat_lt max_part n) u
 
 -- another part of a key: its length, at most 1,024, and its bytes
 unfoldable pub part_at : Unread → Result (List ℕ × Unread) Fault
-part_at u = do
-  n ← number_at w16 u
-  if nat_lt max_part n.0 then fault Bound u.at else bytes_at n.0 n.1
+part_at u = sized_at (fault Length) (fault Bound) 2 (λ n. nat_lt max_part n) u
 
 -- whether an entry is a marker: a byte 1 or 0
 unfoldable pub flag_at : Unread → Result (Bool × Unread) Fault
 flag_at u = do
-  flag ← bytes_at 1 u
+  flag ← uncut (bytes_at 1 u)
   if slice_index flag.0 0 == 0 then Ok (false, flag.1)
-      else (if slice_index flag.0 0 == 1 then Ok (true, flag.1) else fault Bound u.at)
+      else (if slice_index flag.0 0 == 1 then Ok (true, flag.1) else Err (fault Bound u.at))
 
 -- a value: its length, as long as may be, and its bytes
 unfoldable pub value_at : Bool → Unread → Result (List ℕ × Unread) Fault
-value_at deleted u = do
-  n ← number_at w32 u
-  if nat_lt (longest_value deleted) n.0 then fault Bound u.at else bytes_at n.0 n.1
+value_at deleted u = sized_at (fault Length) (fault Bound) 4 (λ n. nat_lt (longest_value deleted) n) u
 
 -- a key: its parts, its time and its flag
 unfoldable pub key_at : Unread → Result (CellKey × Unread) Fault
@@ -78,7 +54,7 @@ key_at u = do
   family ← part_at row.1
   qualifier ← part_at family.1
   visibility ← part_at qualifier.1
-  time ← number_at w64 visibility.1
+  time ← uncut (number_at 8 visibility.1)
   deleted ← flag_at time.1
   Ok (
     record {
@@ -103,13 +79,13 @@ entry_at u = do
 unfoldable pub next_entry_at : Option Cell → Unread → Result (Cell × Unread) Fault
 next_entry_at before u = do
   entry ← entry_at u
-  if is_out_of_order before entry.0 then fault Order u.at else Ok entry
+  if is_out_of_order before entry.0 then Err (fault Order u.at) else Ok entry
 
 -- the entries up to the end mark, of which there are at most as many as the first number says: it is the number of bytes
 unfoldable pub entries_at : ℕ → Option Cell → Unread → Result (List Cell × Unread) Fault
-entries_at zero before u = fault Length u.at
+entries_at zero before u = Err (fault Length u.at)
 entries_at (suc most) before u = do
-  n ← number_at w16 u
+  n ← uncut (number_at 2 u)
   if n.0 == 0 then Ok ([], n.1) else do
     entry ← next_entry_at before u
     entries ← entries_at most (Some entry.0) entry.1
@@ -119,7 +95,7 @@ entries_at (suc most) before u = do
 unfoldable pub index_at : List ℕ → Unread → Result Unread Fault
 index_at [] u = Ok u
 index_at (place ∷ places) u = do
-  rest ← expected_at Index (to_be_bytes w64 place) u
+  rest ← expected_at Index (big_bytes 8 place) u
   index_at places rest
 
 -- what stands before the entries
@@ -132,9 +108,9 @@ head_at u = do
 unfoldable pub footer_at : List ℕ → ℕ → Unread → Result Unread Fault
 footer_at places count u = do
   index ← index_at places u
-  number ← expected_at Tail (to_be_bytes w64 count) index
+  number ← expected_at Tail (big_bytes 8 count) index
   end ← expected_at Tail end_magic number
-  if length end.rest == 0 then Ok end else fault Tail end.at
+  if length end.rest == 0 then Ok end else Err (fault Tail end.at)
 
 -- the list whose image the bytes are, or the first fault of bytes that are no image
 unfoldable pub image_reading : List ℕ → Result (List Cell) Fault

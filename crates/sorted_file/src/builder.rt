@@ -3,11 +3,13 @@ ghost use Rattle.std.specs.Prelude.{◌≡◌, ◌≤◌, false, [], ◌∷◌, 
 ghost use Rattle.std.specs.Option.{option_to_list};
 ghost use Rattle.cell_key.specs.Views.{cell_of};
 ghost use Rattle.sorted_file.specs.Image.{end_magic, end_mark, index_bytes};
-ghost use Rattle.sorted_file.specs.Lists.{is_out_of_order, last_of, longest_value};
+ghost use Rattle.iter_contract.specs.Following.{is_out_of_order};
+ghost use Rattle.sorted_file.specs.Lists.{last_of, longest_value};
 
 use crate::entry_writing::write_entry;
 use crate::file::SortedFile;
 use crate::format::{BLOCK_ENTRIES, END_MAGIC, END_MARK, MAGIC, VERSION};
+use byte_fields::u64_bytes;
 use cell_key::{ByteText, EntryRef, NoMemory};
 use std::alloc::Global;
 use std::marker::Model;
@@ -76,7 +78,7 @@ impl FileBuilder {
         let mut bytes = self.bytes;
         bytes.append(&END_MARK)?;
         append_index(&mut bytes, self.blocks.as_slice())?;
-        bytes.append(&(self.count as u64).to_be_bytes())?;
+        bytes.append(&u64_bytes(self.count as u64))?;
         bytes.append(&END_MAGIC)?;
         Ok(SortedFile {
             bytes,
@@ -113,7 +115,7 @@ fn append_index(image: &mut ByteText, blocks: &[u64]) -> Result<(), NoMemory>
     ensures { OnOk result (image.new ≡ image.old ++ index_bytes blocks.now) }
 {
     for place in blocks {
-        image.append(&place.to_be_bytes())?;
+        image.append(&u64_bytes(*place))?;
     }
     Ok(())
 }

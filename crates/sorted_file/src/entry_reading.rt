@@ -2,12 +2,13 @@
 ghost use Rattle.std.specs.Prelude.{◌≤◌, length, IfOk};
 ghost use Rattle.tablet_model.specs.Limits.{max_part};
 ghost use Rattle.cell_key.specs.Views.{cell_of, key_of};
-ghost use Rattle.sorted_file.specs.Answers.{Gives, unread_of};
+ghost use Rattle.byte_fields.specs.Answers.{unread_of};
+ghost use Rattle.sorted_file.specs.Answers.{Gives};
 ghost use Rattle.sorted_file.specs.Reading.{entry_at, flag_at, key_at, part_at, row_at, value_at};
 
 use crate::fault::{Fault, ImageCause};
 use crate::format::MAX_VALUE;
-use crate::input::Input;
+use byte_fields::Input;
 use cell_key::{EntryRef, KeyRef, MAX_KEY_PART};
 
 #[tactic(auto, unfolding(crate::specs::Reading::row_at))]
@@ -19,9 +20,9 @@ fn take_row(input: Input<'_>) -> Result<(&[u8], Input<'_>), Fault>
     let (length, rest) = input.take_u16()?;
     let length = length as usize;
     if length == 0 || length > MAX_KEY_PART {
-        return Err(input.fault(ImageCause::Bound));
+        return Err(Fault::of(input, ImageCause::Bound));
     }
-    rest.take(length)
+    Ok(rest.take(length)?)
 }
 
 /// A part of a key, but its row.
@@ -33,9 +34,9 @@ fn take_part(input: Input<'_>) -> Result<(&[u8], Input<'_>), Fault>
     let (length, rest) = input.take_u16()?;
     let length = length as usize;
     if length > MAX_KEY_PART {
-        return Err(input.fault(ImageCause::Bound));
+        return Err(Fault::of(input, ImageCause::Bound));
     }
-    rest.take(length)
+    Ok(rest.take(length)?)
 }
 
 /// Whether the entry is a delete marker.
@@ -47,7 +48,7 @@ fn take_flag(input: Input<'_>) -> Result<(bool, Input<'_>), Fault>
     match flag[0] {
         0 => Ok((false, rest)),
         1 => Ok((true, rest)),
-        _ => Err(input.fault(ImageCause::Bound)),
+        _ => Err(Fault::of(input, ImageCause::Bound)),
     }
 }
 
@@ -58,9 +59,9 @@ fn take_value(deleted: bool, input: Input<'_>) -> Result<(&[u8], Input<'_>), Fau
     let (length, rest) = input.take_u32()?;
     let longest = if deleted { 0 } else { MAX_VALUE };
     if length > longest {
-        return Err(input.fault(ImageCause::Bound));
+        return Err(Fault::of(input, ImageCause::Bound));
     }
-    rest.take(length as usize)
+    Ok(rest.take(length as usize)?)
 }
 
 #[tactic(auto, unfolding(crate::specs::Reading::key_at))]

@@ -4,13 +4,14 @@ ghost use Rattle.tablet_model.specs.Limits.{max_part, max_value};
 ghost use Rattle.cell_key.specs.Views.{cell_of, key_of};
 ghost use Rattle.sorted_file.specs.Image.{entry_bytes, flag_bytes, key_bytes, part_bytes, value_bytes};
 
+use byte_fields::{append_u16, append_u32, append_u64};
 use cell_key::{EntryRef, KeyRef, NoMemory};
 
 fn append_part(bytes: &mut Vec<u8>, part: &[u8]) -> Result<(), NoMemory>
     requires { length part.now ≤ max_part }
     ensures { OnOk result (bytes.new.items ≡ bytes.old.items ++ part_bytes part.now) }
 {
-    bytes.extend_from_slice(&(part.len() as u16).to_be_bytes())?;
+    append_u16(bytes, part.len() as u16)?;
     bytes.extend_from_slice(part)?;
     Ok(())
 }
@@ -26,7 +27,7 @@ fn append_value(bytes: &mut Vec<u8>, value: &[u8]) -> Result<(), NoMemory>
     requires { length value.now ≤ max_value }
     ensures { OnOk result (bytes.new.items ≡ bytes.old.items ++ value_bytes value.now) }
 {
-    bytes.extend_from_slice(&(value.len() as u32).to_be_bytes())?;
+    append_u32(bytes, value.len() as u32)?;
     bytes.extend_from_slice(value)?;
     Ok(())
 }
@@ -39,7 +40,7 @@ fn append_key(bytes: &mut Vec<u8>, key: KeyRef<'_>) -> Result<(), NoMemory>
     append_part(bytes, key.family)?;
     append_part(bytes, key.qualifier)?;
     append_part(bytes, key.visibility)?;
-    bytes.extend_from_slice(&key.time.to_be_bytes())?;
+    append_u64(bytes, key.time.cast_unsigned())?;
     append_flag(bytes, key.deleted)
 }
 

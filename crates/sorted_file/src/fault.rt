@@ -1,4 +1,5 @@
 //! Why some bytes are no image.
+use byte_fields::{Cut, Input};
 use cell_key::NoMemory;
 use thiserror::Error;
 
@@ -29,6 +30,36 @@ pub struct Fault {
     pub cause: ImageCause,
 }
 
+impl Fault {
+    ghost use Rattle.std.specs.Prelude.{◌≡◌};
+    ghost use Rattle.sorted_file.specs.Reading.{fault};
+
+    /// A fault of the field that an input begins with.
+    pub(crate) fn of(input: Input<'_>, cause: ImageCause) -> Fault
+        ensures { result ≡ fault cause input.entry.at }
+    {
+        Fault {
+            at: input.at as u64,
+            cause,
+        }
+    }
+}
+
+impl From<Cut> for Fault {
+    ghost use Rattle.std.specs.Prelude.{◌≡◌};
+    ghost use Rattle.sorted_file.specs.Reading.{fault};
+    ghost use Rattle.sorted_file.specs.declared.fault.ImageCause.TheVariants.{Length};
+
+    ghost from_gives = { λ cut e. e ≡ fault Length cut.at };
+
+    fn from(cut: Cut) -> Fault {
+        Fault {
+            at: cut.at,
+            cause: ImageCause::Length,
+        }
+    }
+}
+
 /// Why bytes were not opened.
 #[derive(Clone, Copy, Debug, PartialEq, Eq, Error)]
 pub enum OpenError {
@@ -49,6 +80,21 @@ impl From<Fault> for OpenError {
         OpenError::Image {
             at: fault.at,
             cause: fault.cause,
+        }
+    }
+}
+
+impl From<Cut> for OpenError {
+    ghost use Rattle.std.specs.Prelude.{◌≡◌};
+    ghost use Rattle.sorted_file.specs.declared.fault.ImageCause.TheVariants.{Length};
+    ghost use Rattle.sorted_file.specs.declared.fault.OpenError.TheVariants as error;
+
+    ghost from_gives = { λ cut e. e ≡ error.Image cut.at Length };
+
+    fn from(cut: Cut) -> OpenError {
+        OpenError::Image {
+            at: cut.at,
+            cause: ImageCause::Length,
         }
     }
 }

@@ -11,9 +11,9 @@ use crate::entry_reading::take_entry;
 use crate::fault::OpenError;
 use crate::format::{BLOCK_ENTRIES, MAGIC, VERSION};
 use crate::image_reading::{Contents, read_image};
-use crate::input::Input;
 use crate::outline::Outline;
 use crate::spot::Spot;
+use byte_fields::Input;
 use cell_key::{ByteText, EntryRef};
 use std::alloc::Global;
 use std::marker::Model;
@@ -83,6 +83,7 @@ impl SortedFile {
         ensures place { result.place ≡ entry_place self.now 0 }
         ensures list { IsFileList self.now }
     {
+        // The bytes of a file are an image, which a look at them says.
         let _ = &self.bytes;
         Spot {
             index: 0,

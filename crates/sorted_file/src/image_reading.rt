@@ -1,16 +1,18 @@
 //! How an image is read.
 ghost use Rattle.std.specs.Prelude.{◌≡◌, ◌<◌, ◌≤◌, ◌++◌, None, All, IfOk, OnOk, length, option_map};
 ghost use Rattle.cell_key.specs.Views.{cell_of};
-ghost use Rattle.sorted_file.specs.Answers.{Gives, Opens, count_in, counted, list_in, unread_of};
+ghost use Rattle.byte_fields.specs.Answers.{unread_of};
+ghost use Rattle.sorted_file.specs.Answers.{Gives, Opens, count_in, counted, list_in};
 ghost use Rattle.sorted_file.specs.Image.{block_places, block_start, image_of};
-ghost use Rattle.sorted_file.specs.Lists.{IsFileList, is_out_of_order};
-ghost use Rattle.sorted_file.specs.Reading.{entries_at, footer_at, head_at, image_reading, index_at, next_entry_at};
+ghost use Rattle.sorted_file.specs.Lists.{IsFileList};
+ghost use Rattle.sorted_file.specs.Reading.{entries_at, expected_at, footer_at, head_at, image_reading, index_at, next_entry_at};
 
 use crate::entry_reading::take_entry;
 use crate::fault::{Fault, ImageCause, OpenError};
 use crate::format::{BLOCK_ENTRIES, END_MAGIC, MAGIC, VERSION};
-use crate::input::Input;
-use cell_key::{EntryRef, NoMemory, compare_entries};
+use byte_fields::{Input, u64_bytes};
+use cell_key::{EntryRef, NoMemory};
+use iter_contract::is_out_of_order;
 use std::alloc::Global;
 
 /// What an image says of its entries.
@@ -33,17 +35,6 @@ struct Body<'a> {
     rest: Input<'a>,
 }
 
-/// Whether an entry sorts before the one before it, if there is one.
-#[tactic(auto, unfolding(tablet_model::specs::Order::above))]
-fn is_out_of_order(before: Option<EntryRef<'_>>, entry: EntryRef<'_>) -> bool
-    ensures { result ≡ is_out_of_order (option_map cell_of before.entry) (cell_of entry.entry) }
-{
-    match before {
-        None => false,
-        Some(before) => compare_entries(before, entry).is_gt(),
-    }
-}
-
 /// The next entry, which does not sort before the one before it.
 #[tactic(auto, unfolding(crate::specs::Reading::next_entry_at))]
 fn take_next<'a>(
@@ -55,7 +46,7 @@ fn take_next<'a>(
 {
     let (entry, rest) = take_entry(input)?;
     if is_out_of_order(before, entry) {
-        return Err(input.fault(ImageCause::Order));
+        return Err(Fault::of(input, ImageCause::Order));
     }
     Ok((entry, rest))
 }
@@ -98,13 +89,25 @@ fn take_body<'a>(alloc: Global, most: usize, input: Input<'a>) -> Result<Body<'a
     }
 }
 
+/// What follows a field that can only be these bytes; where it is another, the fault has this cause.
+#[tactic(auto, unfolding(crate::specs::Reading::expected_at))]
+fn expect<'a>(input: Input<'a>, bytes: &[u8], cause: ImageCause) -> Result<Input<'a>, Fault>
+    ensures { Gives unread_of result (expected_at cause bytes.now (unread_of input.entry)) }
+{
+    let (field, rest) = input.take(bytes.len())?;
+    if field != bytes {
+        return Err(Fault::of(input, cause));
+    }
+    Ok(rest)
+}
+
 /// The index, which can only be these places.
 fn take_index<'a>(places: &[u64], input: Input<'a>) -> Result<Input<'a>, Fault>
     ensures { Gives unread_of result (index_at places.now (unread_of input.entry)) }
 {
     let mut rest = input;
     for place in places {
-        rest = rest.expect(&place.to_be_bytes(), ImageCause::Index)?;
+        rest = expect(rest, &u64_bytes(*place), ImageCause::Index)?;
     }
     Ok(rest)
 }
@@ -115,10 +118,10 @@ fn take_footer<'a>(places: &[u64], count: usize, input: Input<'a>) -> Result<Inp
     ensures { Gives unread_of result (footer_at places.now count (unread_of input.entry)) }
 {
     let input = take_index(places, input)?;
-    let input = input.expect(&(count as u64).to_be_bytes(), ImageCause::Tail)?;
-    let input = input.expect(&END_MAGIC, ImageCause::Tail)?;
+    let input = expect(input, &u64_bytes(count as u64), ImageCause::Tail)?;
+    let input = expect(input, &END_MAGIC, ImageCause::Tail)?;
     if !input.rest.is_empty() {
-        return Err(input.fault(ImageCause::Tail));
+        return Err(Fault::of(input, ImageCause::Tail));
     }
     Ok(input)
 }
@@ -128,8 +131,8 @@ fn take_footer<'a>(places: &[u64], count: usize, input: Input<'a>) -> Result<Inp
 fn take_head(input: Input<'_>) -> Result<Input<'_>, Fault>
     ensures { Gives unread_of result (head_at (unread_of input.entry)) }
 {
-    let input = input.expect(&MAGIC, ImageCause::Magic)?;
-    input.expect(&VERSION, ImageCause::Version)
+    let input = expect(input, &MAGIC, ImageCause::Magic)?;
+    expect(input, &VERSION, ImageCause::Version)
 }
 
 /// What an image says of its entries: where its blocks stand, and how many entries there are.

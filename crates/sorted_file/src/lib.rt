@@ -10,7 +10,6 @@ mod file;
 mod format;
 mod image_laws;
 mod image_reading;
-mod input;
 mod outline;
 mod seeking;
 mod spot;

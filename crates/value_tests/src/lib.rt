@@ -1,10 +1,12 @@
-//! The tests of keys, numbers and streams: examples from outside, and that each call that takes memory succeeds where there is some.
+//! The tests of keys, fields, numbers and streams: examples from outside, and that each call that takes memory succeeds where there is some.
 #![tactic(auto)]
 
 #[cfg(test)]
 mod arrays;
 #[cfg(test)]
 mod columns;
+#[cfg(test)]
+mod fields;
 #[cfg(test)]
 mod fixtures;
 #[cfg(test)]

@@ -4,8 +4,8 @@ ghost use Rattle.std.specs.Prelude.{◌≤◌};
 use cell_key::{ByteText, NoMemory};
 use std::alloc::Global;
 use tablet_io::{
-    Calls, Gate, Got, MemSink, MemSource, OpenGate, Place, Put, ReadError, Sink, Source, Status,
-    StdSink, StdSource, read_all, write_all,
+    Calls, Gate, Got, MemSink, MemSource, OpenGate, Place, Put, ReadError, Sink, Source, StdSink,
+    StdSource, read_all, write_all,
 };
 
 /// A source of `hello` that gives so many bytes a call.
@@ -136,21 +136,4 @@ fn a_writer_of_std_is_written(rt: HostRuntime) {
 #[test]
 fn an_open_gate_holds_nothing_back(_rt: HostRuntime) {
     OpenGate.at(Place::Publish(1));
-}
-
-#[test]
-fn statuses_have_numbers(rt: HostRuntime) {
-    let numbers = [
-        (Status::Done, 0),
-        (Status::Usage, 2),
-        (Status::BadConfig, 3),
-        (Status::ReadFault, 4),
-        (Status::WriteFault, 5),
-        (Status::NoMemory, 6),
-        (Status::TooLong, 7),
-        (Status::BadImage, 8),
-    ];
-    for (status, number) in numbers {
-        assert!(rt; status.number() == number, "{number}");
-    }
 }

@@ -1,9 +1,11 @@
 use Rattle.std.proofs.Common.{◌≡◌, ℕ, List, Ok, sym, ap, ◌∙◌, arith}
 use Rattle.std.proofs.lemmas.Result.{err_from_is_err_and}
-use Rattle.sorted_file.specs.Answers.{count_in, unread_of}
+use Rattle.byte_fields.specs.Answers.{unread_of}
+use Rattle.sorted_file.specs.Answers.{count_in}
 use Rattle.sorted_file.specs.Reading.{footer_at, image_reading}
 use Rattle.sorted_file.specs.declared.image_reading.Body.{Body}
-use Rattle.sorted_file.proofs.Opening.{refused, head_fault, head_is, all_bytes, body_refused, body_found, footer_fault, footer_found, blocks_found, read_is}
+use Rattle.byte_fields.proofs.Fields.{all_bytes}
+use Rattle.sorted_file.proofs.Opening.{refused, head_fault, head_is, body_refused, body_found, footer_fault, footer_found, blocks_found, read_is}
 use Rattle.sorted_file.proofs.image_reading.read_image.Goals as goal
 use Rattle.sorted_file.proofs.image_reading.read_image.Goals.{In_ok-take_footer}
 

@@ -2,10 +2,12 @@ use Rattle.std.proofs.Common.{◌≡◌, ℕ, ◌+◌, ◌-◌, List, false, Non
 use Rattle.std.proofs.lemmas.Bool.Decides.{nat_tests}
 use Rattle.std.specs.Option.{option_map}
 use Rattle.cell_key.specs.Views.{cell_of}
-use Rattle.sorted_file.specs.Answers.{unread_of}
-use Rattle.sorted_file.specs.Reading.{entries_at}
+use Rattle.byte_fields.specs.Answers.{unread_of}
+use Rattle.sorted_file.specs.Reading.{fault, entries_at}
+use Rattle.sorted_file.specs.declared.fault.ImageCause.TheVariants.{Length}
 use Rattle.sorted_file.proofs.Loops.{with_front, nothing_read, length_fault, ends, entry_fault, goes_on, fewer}
-use Rattle.sorted_file.proofs.Opening.{in_bytes, refused}
+use Rattle.byte_fields.proofs.Fields.{in_bytes}
+use Rattle.sorted_file.proofs.Opening.{refused}
 use Rattle.sorted_file.proofs.image_reading.take_body.Goals as goal
 
 some_length : (n : ℕ) → (n ≡ 0 → ⊥) → eqb n 0 ≡ false
@@ -21,8 +23,8 @@ loop-places-init c = record {
 pub returns-in_err-length : goal.returns-in_err-length
 returns-in_err-length c =
     let l = c.loop-places in
-    refused _ c.from_residual.result c.in_err-length.field-0.0 _ c.from_residual.ensures.1
-    (length_fault l.places.items l.count c.args.most (option_map cell_of l.before) (unread_of l.rest) c.in_err-length.field-0.0 _ l.invariant.few c.in_err-length.ensures l.invariant.read)
+    refused _ c.from_residual.result (fault Length c.in_err-length.field-0.0.at) _ c.from_residual.ensures.1
+    (length_fault l.places.items l.count c.args.most (option_map cell_of l.before) (unread_of l.rest) c.in_err-length.field-0.0.at _ l.invariant.few c.in_err-length.ensures l.invariant.read)
 
 pub returns-then-length-eq0 : goal.returns-then-length-eq0
 returns-then-length-eq0 c =

@@ -1,9 +1,10 @@
 use Rattle.std.proofs.Common.{◌≡◌, ◌+◌, ◌-◌, ◌≤◌, length, None}
 use Rattle.std.specs.Option.{option_map}
 use Rattle.cell_key.specs.Views.{cell_of}
-use Rattle.sorted_file.specs.Answers.{counted, unread_of}
+use Rattle.byte_fields.specs.Answers.{unread_of}
+use Rattle.sorted_file.specs.Answers.{counted}
 use Rattle.sorted_file.specs.Reading.{entries_at}
-use Rattle.sorted_file.proofs.Fields.{IsBytes}
+use Rattle.byte_fields.proofs.Fields.{IsBytes}
 use Rattle.sorted_file.proofs.Loops.{with_front}
 use Rattle.sorted_file.proofs.image_reading.take_body.Given as goal
 

@@ -1,5 +1,5 @@
 use Rattle.std.proofs.Common.{◌≡◌, drop}
-use Rattle.sorted_file.specs.Answers.{unread_of}
+use Rattle.byte_fields.specs.Answers.{unread_of}
 use Rattle.sorted_file.specs.Reading.{index_at}
 use Rattle.sorted_file.proofs.image_reading.take_index.Given as goal
 

@@ -1,6 +1,6 @@
 use Rattle.std.proofs.Common.{length, ap, arith}
 use Rattle.cell_key.specs.Views.{cell_of}
-use Rattle.sorted_file.specs.Answers.{unread_of}
+use Rattle.byte_fields.specs.Answers.{unread_of}
 use Rattle.sorted_file.proofs.Images.{length_list}
 use Rattle.sorted_file.proofs.Places.{place_within, entries_within, no_fault, entry_and_next}
 use Rattle.sorted_file.proofs.file.SortedFile.entry.Goals as goal
