@@ -17,6 +17,13 @@ kind = "versions"
 max = 1
 scopes = ["scan", "minc", "majc"]
 %%"""
+SEARCH = """[[iterator]]
+name = "search"
+priority = 30
+kind = "intersecting"
+terms = ["each", "many", "rare"]
+scopes = ["scan"]
+%%"""
 FLUSH = ["freeze", "flushed"]
 
 
@@ -72,7 +79,17 @@ def large(size):
     return [NEWEST, "m r +a:b:=" + "v" * 65536, *["scan"] * size]
 
 
-# Each with its least size, and what its peers do with the values of a column.
+def index(size):
+    """An index of `size` documents in one partition, of which each has a term, half have another, and one in 1,000 has a rare one; and ten
+    searches for all three."""
+    lines = []
+    for i in range(size):
+        terms = ["each"] + ["many"] * (i % 2 == 0) + ["rare"] * (i % 1000 == 0)
+        lines.append("m p " + " ".join(f"+{term}:d{i:07}:=" for term in terms))
+    return [SEARCH, *flushed_ten_times(lines), *["scan"] * 10]
+
+
+# Each with its least size, and what its peers do with the values of a column; they have no searches.
 ALL = {
     "counters": (counters, 100_000, "sums"),
     "newest": (newest, 100_000, "newest"),
@@ -80,6 +97,7 @@ ALL = {
     "points": (points, 25_000, "newest"),
     "batches": (batches, 50_000, "sums"),
     "large": (large, 10_000, "newest"),
+    "index": (index, 100_000, None),
 }
 
 

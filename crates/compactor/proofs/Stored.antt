@@ -1,5 +1,5 @@
 -- What a store may have, all iterators of its configuration read, and what compactions make of it fits into a file.
-use Rattle.std.proofs.Common.{◌≡◌, ◌≤◌, Bool, true, false, not, cond, List, [], ◌∷◌, length, refl, sym, subst, arith}
+use Rattle.std.proofs.Common.{◌≡◌, ◌≤◌, Bool, true, false, not, cond, List, [], ◌∷◌, length, append-nil, refl, sym, subst, arith}
 use Rattle.std.specs.Prelude.{filter}
 use Rattle.std.specs.List.{AllByRecursion}
 use Rattle.tablet_model.specs.Cell.{Cell}
@@ -8,29 +8,22 @@ use Rattle.tablet_model.specs.Markers.{live, mark}
 use Rattle.tablet_model.specs.Reading.{AreUnmarkedRead, IsReadBy}
 use Rattle.tablet_model.specs.Rules.{AreStorable, IsStorable, Rules}
 use Rattle.tablet_model.proofs.Sums.{all_weaker}
-use Rattle.stage_laws.proofs.Storable.{keeps_first, keeps_live, keeps_mark, keeps_partial, keeps_stages}
+use Rattle.stage_laws.proofs.Parts.{all_partial}
+use Rattle.stage_laws.proofs.Storable.{IsKeeping, keeps_first, keeps_live, keeps_mark, keeps_stages}
 use Rattle.sorted_file.specs.Lists.{longest_value}
 use Rattle.iter_config.specs.Order.{IsConfig}
 use Rattle.iter_config.specs.Rules.{in_base, is_combiner}
 use Rattle.iter_config.specs.RulesOf.{rules_of, scans_alone}
-use Rattle.iter_config.specs.Stages.{stage_of, stages_of}
+use Rattle.iter_config.specs.Stages.{stages_of}
 use Rattle.iter_config.specs.declared.iter_spec.IterSpec.{IterSpec}
-use Rattle.iter_config.specs.declared.iter_spec.Kind.{Kind}
-use Rattle.iter_config.specs.declared.iter_spec.Kind.TheVariants.{Filter, Versions, Combine}
 use Rattle.iter_config.proofs.Soundness.{sound}
 use Rattle.compactor.specs.FileValues.{HasShortValue}
 use Rattle.iter_stack.specs.Usages.{usage_cells}
 use Rattle.iter_stack.specs.declared.usage.Usage.{Usage}
-use Rattle.iter_stack.specs.declared.usage.Usage.TheVariants.{Scan, Minc, MajcPart, MajcFull}
-use Rattle.iter_stack.proofs.Taken.{filter_reads}
+use Rattle.iter_stack.specs.declared.usage.Usage.TheVariants.{Scan, Minc, MajcPart, MajcFull, Pack}
+use Rattle.iter_stack.proofs.Taken.{plain_reads}
 
 -- ---- what is read
-
--- an iterator that is no combiner reads each value
-plain_reads : (e : Cell) (k : Kind) → is_combiner k ≡ false → IsReadBy e (stage_of k)
-plain_reads e (Filter predicate negate) h = filter_reads e predicate negate
-plain_reads e (Versions max) h = tt
-plain_reads e (Combine op columns encoding deletes) h = absurd (let k : true ≡ false = h in cc)
 
 -- what the iterators of compactions and the other combiners read, all iterators do
 pub all_read_by : (e : Cell) (specs : List IterSpec) → AllByRecursion (IsReadBy e) (stages_of (filter in_base specs))
@@ -79,11 +72,15 @@ usage_storable specs config Minc compacts list h =
 usage_storable specs config MajcPart compacts list h =
     let rules = rules_of specs in
     let law = sound specs config in
-    keeps_stages rules (partial_stages rules.major) (keeps_partial rules rules.major (keeps_first rules law rules.major law.major_first)) (mark list) (keeps_mark rules list h)
+    keeps_stages rules (partial_stages rules.major) (all_partial (IsKeeping rules) rules.major (keeps_first rules law rules.major law.major_first)) (mark list) (keeps_mark rules list h)
 usage_storable specs config MajcFull compacts list h =
     let rules = rules_of specs in
     let law = sound specs config in
     keeps_stages rules rules.major (keeps_first rules law rules.major law.major_first) (live list) (keeps_live rules list h)
+usage_storable specs config Pack compacts list h =
+    let rules = rules_of specs in
+    let law = sound specs config in
+    keeps_stages rules rules.base (keeps_first rules law rules.base ([], append-nil rules.base)) (live list) (keeps_live rules list h)
 
 -- so a file takes it
 pub usage_short : (specs : List IterSpec) → IsConfig specs → (usage : Usage) → ¬ (usage ≡ Scan) → (list : List Cell) → AreStorable (rules_of specs) list

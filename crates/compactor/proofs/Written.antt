@@ -5,7 +5,8 @@ use Rattle.tablet_model.specs.Cell.{Cell}
 use Rattle.tablet_model.specs.Cuts.{Everything, within}
 use Rattle.tablet_model.specs.Order.{above}
 use Rattle.tablet_model.specs.Sorted.{Ascends, first}
-use Rattle.sorted_file.specs.Lists.{is_out_of_order, last_of}
+use Rattle.iter_contract.specs.Following.{is_out_of_order}
+use Rattle.sorted_file.specs.Lists.{last_of}
 
 -- the next entry of a list in order does not sort before the last one
 next_in_order : (list : List Cell) (e : Cell) (es : List Cell) → Ascends above (list ++ e ∷ es) → is_out_of_order (last_of list) e ≡ false

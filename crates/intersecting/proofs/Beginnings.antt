@@ -4,7 +4,8 @@ use Rattle.std.specs.Ordering.{is_gt, is_ge, ordering_then}
 use Rattle.tablet_model.specs.Cell.{Cell, CellKey, column_of}
 use Rattle.tablet_model.specs.Order.{key_cmp, column_cmp, time_cmp, bytes_cmp}
 use Rattle.tablet_model.specs.Cuts.{Cut, Everything, Before, Behind, BeforeRow, BehindRow, is_behind}
-use Rattle.intersecting.specs.Documents.{document_key, last_time}
+use Rattle.tablet_model.specs.Rows.{last_time}
+use Rattle.intersecting.specs.Documents.{document_key}
 use Rattle.intersecting.specs.Searches.{among, without_family, document_cmp, lies_from, place, reaches}
 use Rattle.intersecting.proofs.Rounds.{tied_parts}
 

@@ -1,7 +1,7 @@
 -- One of several sources is sought, and all else stays.
-use Rattle.std.proofs.Common.{◌≡◌, ℕ, zero, suc, ◌<◌, Bool, true, false, ◌&&◌, List, [], ◌∷◌, length, map, take, ◌++◌, get_or, refl, sym, ◌∙◌, ap, subst, arith}
+use Rattle.std.proofs.Common.{◌≡◌, ℕ, zero, suc, ◌<◌, List, [], ◌∷◌, length, map, take, ◌++◌, get_or, refl, sym, ◌∙◌, ap, subst, arith}
 use Rattle.std.specs.Prelude.{slice_set}
-use Rattle.std.specs.List.{AllByRecursion, list_all}
+use Rattle.std.specs.List.{AllByRecursion}
 use Rattle.intersecting.specs.Firsts.{at_first}
 
 pub map_set : {S X : Type 0} (f : S → X) (xs : List S) (k : ℕ) (x d : S) → f x ≡ f (get_or xs k d) → map f (slice_set xs k x) ≡ map f xs

@@ -7,12 +7,13 @@ use Rattle.tablet_model.specs.Cell.{Cell}
 use Rattle.tablet_model.specs.Order.{above, bytes_cmp}
 use Rattle.tablet_model.specs.Sorted.{Ascends}
 use Rattle.tablet_model.specs.Kept.{kept}
-use Rattle.tablet_model.specs.Rows.{same_bytes, same_row, has_term, is_hit, leads_hit, intersect}
+use Rattle.tablet_model.specs.Rows.{same_bytes, same_row, has_term, is_hit, leads_hit, intersect, intersected, last_time}
 use Rattle.tablet_model.proofs.Sums.{all_weaker}
 use Rattle.tablet_model.proofs.CutLemmas.{ge_back}
-use Rattle.intersecting.specs.Documents.{document_entry, intersected, last_time, matches}
+use Rattle.tablet_model.proofs.Maps.{all_map}
+use Rattle.intersecting.specs.Documents.{document_entry, matches}
 use Rattle.intersecting.specs.Searches.{document_cmp, lies_from, is_under}
-use Rattle.intersecting.specs.IntersectLaws.{Rises, all_map, kept_rises, leads_hits}
+use Rattle.intersecting.specs.IntersectLaws.{Rises, kept_rises, leads_hits}
 use Rattle.intersecting.proofs.Orders.{document_total, equal_texts, same_texts_itself, itself}
 use Rattle.intersecting.proofs.Firsts.{no}
 use Rattle.intersecting.proofs.Agreements.{all_at}

@@ -10,8 +10,8 @@ use Rattle.tablet_model.proofs.CutLemmas.{before_down, key_le}
 use Rattle.tablet_model.proofs.Orders.{above_exact}
 use Rattle.tablet_model.proofs.Seeks.{filter_both, filter_same}
 use Rattle.tablet_model.proofs.Sums.{all_weaker, Ascends-filter}
-use Rattle.tablet_model.specs.Rows.{has_term}
-use Rattle.intersecting.specs.Documents.{document_key, document_entry, intersected, matches}
+use Rattle.tablet_model.specs.Rows.{has_term, intersected}
+use Rattle.intersecting.specs.Documents.{document_key, document_entry, matches}
 use Rattle.intersecting.specs.IntersectLaws.{Ascends-intersected}
 use Rattle.intersecting.specs.Searches.{lies_from, place, IsSearch}
 use Rattle.intersecting.specs.Firsts.{at_first}

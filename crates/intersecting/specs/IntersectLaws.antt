@@ -1,21 +1,18 @@
--- The entries of documents that match are in order and within bounds. This is this project's own.
-use Rattle.std.proofs.Common.{◌≡◌, ◌≤◌, ◌&&◌, ◌||◌, not, ℕ, Bool, true, false, cond, List, [], ◌∷◌, map, length, refl, sym, ap, ◌∙◌, Equal, Less, Greater, Ordering}
+-- The entries of documents that match are in order. This is this project's own.
+use Rattle.std.proofs.Common.{◌≡◌, ◌&&◌, ◌||◌, not, ℕ, Bool, true, false, cond, List, [], ◌∷◌, map, refl, sym, ap, ◌∙◌, Equal, Less, Greater, Ordering}
 use Rattle.std.specs.Prelude.{⊤}
-use Rattle.std.specs.Int.Signed.{le_z_yes}
 use Rattle.std.specs.List.{AllByRecursion, list_any}
 use Rattle.std.specs.Ordering.{is_eq, is_gt, ordering_then}
-use Rattle.std.proofs.Math.Nat.{le_of_sub-eq-zero}
 use Rattle.std.proofs.lemmas.Cmp.{tied_itself, nat_list_cmp_total}
 use Rattle.std.proofs.lemmas.Map.Lookups.{exact_bytes}
 use Rattle.tablet_model.specs.Cell.{Cell}
 use Rattle.tablet_model.specs.Order.{above, cell_cmp, key_cmp, column_cmp, bytes_cmp}
 use Rattle.tablet_model.specs.Sorted.{Ascends}
-use Rattle.tablet_model.specs.Bounds.{IsEntry, AreEntries}
 use Rattle.tablet_model.specs.Kept.{kept}
-use Rattle.tablet_model.specs.Rows.{same_bytes, same_row, is_hit, leads_hit, intersect}
+use Rattle.tablet_model.specs.Rows.{same_bytes, same_row, is_hit, leads_hit, intersect, intersected}
 use Rattle.tablet_model.proofs.CutLemmas.{key_le}
-use Rattle.tablet_model.proofs.Risings.{all_kept}
-use Rattle.intersecting.specs.Documents.{document_entry, intersected}
+use Rattle.tablet_model.proofs.Maps.{all_map}
+use Rattle.intersecting.specs.Documents.{document_entry}
 use Rattle.intersecting.specs.Searches.{document_cmp}
 
 -- what does not hold shows anything
@@ -26,10 +23,6 @@ wrong a b h = ap (λ c. cond c b a) h
 abbrev pub Rises : List Cell → Type 0
 Rises [] = ⊤
 Rises (x ∷ xs) = AllByRecursion (λ y. document_cmp x.key y.key ≡ Less) xs × Rises xs
-
-pub all_map : (P Q : Cell → Type 0) (f : Cell → Cell) → ((y : Cell) → P y → Q (f y)) → (ys : List Cell) → AllByRecursion P ys → AllByRecursion Q (map f ys)
-all_map P Q f h [] a = tt
-all_map P Q f h (y ∷ ys) a = (h y a.0, all_map P Q f h ys a.1)
 
 -- ---- texts
 
@@ -159,13 +152,3 @@ pub Ascends-intersected : (terms without : List (List ℕ)) (list : List Cell) �
 unfolding intersected intersect Ascends
 Ascends-intersected [] without list up = tt
 Ascends-intersected (first ∷ others) without list up = Ascends-entries (kept (leads_hit first others without list) [] list) (kept_rises first others without list [] list up)
-
--- they are within bounds
-pub intersected_bounded : (terms without : List (List ℕ)) (list : List Cell) → AreEntries list → AreEntries (intersected terms without list)
-unfolding intersected intersect
-intersected_bounded [] without list all = tt
-intersected_bounded (first ∷ others) without list all =
-    all_map IsEntry IsEntry document_entry (λ e h. ((h.0.0, h.0.1, empty, h.0.3, empty), (le_z_yes tt, le_z_yes tt))) (kept (leads_hit first others without list) [] list) (all_kept IsEntry (leads_hit first others without list) [] list all)
-  where
-    empty : length {A = ℕ} [] ≤ 1024
-    empty = le_of_sub-eq-zero refl

@@ -7,7 +7,8 @@ use Rattle.tablet_model.specs.Sorted.{Ascends}
 use Rattle.tablet_model.specs.Bounds.{AreEntries}
 use Rattle.intersecting.specs.Firsts.{at_first, Ascends-first, first_bounded}
 use Rattle.intersecting.specs.IntersectStages.{intersect_cells, intersect_left, IntersectFits}
-use Rattle.intersecting.specs.IntersectLaws.{Ascends-intersected, intersected_bounded}
+use Rattle.intersecting.specs.IntersectLaws.{Ascends-intersected}
+use Rattle.tablet_model.proofs.RowBounds.{intersected_bounded}
 use Rattle.intersecting.specs.declared.intersect_iter.IntersectIter.{IntersectIter}
 use Rattle.std.specs.Arc.{arc_value}
 

@@ -3,7 +3,8 @@ use Rattle.std.specs.Prelude.{◌≡◌, ℕ, ◌+◌, ◌≤◌, ◌&&◌, true
 use Rattle.std.specs.Arc.{arc_value}
 use Rattle.tablet_model.specs.Cell.{Cell}
 use Rattle.tablet_model.specs.Cuts.{is_before}
-use Rattle.intersecting.specs.Documents.{intersected, matches}
+use Rattle.tablet_model.specs.Rows.{intersected}
+use Rattle.intersecting.specs.Documents.{matches}
 use Rattle.intersecting.specs.Searches.{lies_from, place}
 use Rattle.intersecting.specs.declared.stage.IntersectStage.{IntersectStage}
 

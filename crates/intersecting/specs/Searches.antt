@@ -7,8 +7,8 @@ use Rattle.tablet_model.specs.Cell.{Cell, CellKey, Column}
 use Rattle.tablet_model.specs.Columns.{with_time}
 use Rattle.tablet_model.specs.Cuts.{Cut, Everything, Before, Behind, BeforeRow, BehindRow, is_behind}
 use Rattle.tablet_model.specs.Order.{bytes_cmp}
-use Rattle.tablet_model.specs.Rows.{same_bytes, has_term}
-use Rattle.intersecting.specs.Documents.{last_time, matches}
+use Rattle.tablet_model.specs.Rows.{same_bytes, has_term, last_time}
+use Rattle.intersecting.specs.Documents.{matches}
 use Rattle.intersecting.specs.declared.asking.Step.{Step}
 use Rattle.intersecting.specs.declared.asking.Step.TheVariants.{Here, Ahead, Nowhere}
 use Rattle.intersecting.specs.declared.searching.Round.{Round}

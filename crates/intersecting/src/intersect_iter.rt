@@ -25,7 +25,7 @@ impl<S: SortedSource> IntersectIter<S> {
     ghost use Rattle.std.specs.Prelude.{◌≤◌, ◌+◌, false, length, IfOk};
     ghost use Rattle.std.specs.Arc.{arc_value};
     ghost use Rattle.iter_contract.specs.Copies.{IsCopy};
-    ghost use Rattle.intersecting.specs.Documents.{intersected};
+    ghost use Rattle.tablet_model.specs.Rows.{intersected};
     ghost use Rattle.intersecting.specs.IntersectParts.{iter_cells, iter_rest, iter_steady, iter_valid};
 
     /// An iterator over a source, which may have been sought or not, for documents that have all of `terms`, at least one, and none

@@ -14,6 +14,8 @@ pub fn copied<S: SortedSource>(alloc: Global, source: S, count: usize) -> Result
     ensures cells { IfOk result (λ sources. AllByRecursion (λ cells. cells ≡ S.cells source) (map S.cells sources.items)) }
     ensures count { IfOk result (λ sources. length sources.items ≡ 1 + count) }
     ensures first { IfOk result (λ sources. at_first S.cells [] sources.items ≡ S.cells source) }
+    ensures rest { IfOk result (λ sources. at_first S.rest [] sources.items ≡ S.rest source) }
+    ensures steady { IfOk result (λ sources. at_first S.steady false sources.items ≡ S.steady source) }
 {
     let mut sources = Vec::new(alloc);
     sources.push(source)?;

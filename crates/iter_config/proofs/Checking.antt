@@ -13,7 +13,7 @@ use Rattle.iter_config.specs.RulesOf.{rules_of, scans_alone}
 use Rattle.iter_config.specs.Stages.{stage_of, stages_of}
 use Rattle.iter_config.specs.declared.iter_spec.IterSpec.{IterSpec}
 use Rattle.iter_config.specs.declared.iter_spec.Kind.{Kind}
-use Rattle.iter_config.specs.declared.iter_spec.Kind.TheVariants.{Filter, Versions, Combine}
+use Rattle.iter_config.specs.declared.iter_spec.Kind.TheVariants.{Filter, Versions, Combine, WholeRow, Intersecting}
 use Rattle.iter_config.proofs.FilterStages.{filter_is}
 
 pub refused_delete : (specs : List IterSpec) (k : ℕ) (m : RowChange) (u : Change)
@@ -36,11 +36,15 @@ unfolding is_read column_listed
 front_reads e (Filter predicate negate) ss = filter_is (λ s. is_read (s ∷ ss) e ≡ is_read ss e) predicate negate (λ k. refl) (λ k. refl)
 front_reads e (Versions max) ss = refl
 front_reads e (Combine op columns encoding deletes) ss = refl
+front_reads e WholeRow ss = refl
+front_reads e (Intersecting terms without) ss = refl
 
 others_read : (family qualifier value : List ℕ) (kind : Kind) → is_combiner kind ≡ false → kind_reads family qualifier value kind ≡ true
 others_read family qualifier value (Filter predicate negate) h = refl
 others_read family qualifier value (Versions max) h = refl
 others_read family qualifier value (Combine op columns encoding deletes) h = absurd (let k : true ≡ false = h in cc)
+others_read family qualifier value WholeRow h = refl
+others_read family qualifier value (Intersecting terms without) h = refl
 
 and_swap : (a b c : Bool) → (a && (b && c)) ≡ (b && (a && c))
 and_swap true true c = refl

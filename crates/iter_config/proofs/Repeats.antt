@@ -4,7 +4,7 @@ use Rattle.std.specs.List.{All, AllByRecursion, IsDistinct, list_any}
 use Rattle.std.proofs.lemmas.List.{at_drop_more, take_more}
 use Rattle.std.proofs.lemmas.List.Elements.{All-from_recursion}
 use Rattle.std.proofs.lemmas.List.Folds.{list_any-append}
-use Rattle.iter_config.specs.Rules.{all_scopes, first_clash, first_gap, first_unscanned, leaves_gap, number_by, scopes_gap}
+use Rattle.iter_config.specs.Rules.{all_scopes, combines_behind, first_beyond_scans, first_clash, first_gap, first_unscanned, is_combiner, is_scan_only, leaves_gap, leaves_scans, number_by, scopes_gap}
 use Rattle.iter_config.specs.declared.iter_spec.IterSpec.{IterSpec}
 use Rattle.iter_config.proofs.Truths.{both_false}
 
@@ -103,3 +103,61 @@ prefixes-from_first_gap priorities (s ∷ ss) h = go (scopes_gap all_scopes s.sc
     go : (b : Bool) → cond b (Some (number_by priorities s)) (first_gap priorities s.scopes ss) ≡ None → IsDistinct leaves_gap (s ∷ ss)
     go true k = absurd (let m : Some (number_by priorities s) ≡ None = k in cc)
     go false k = gaps priorities s ss k
+
+no_number : (n : ℕ) → Some n ≡ None → ⊥
+no_number n h = cc
+
+either : (a b : Bool) → (a || b) ≡ false → (a ≡ false) × (b ≡ false)
+either a b h = grind arith
+
+-- where none is found that leaves scans, or combines behind one for scans alone
+beyond_none : (priorities : List ℕ) (alone : Bool) (s : IterSpec) (ss : List IterSpec) → first_beyond_scans priorities alone (s ∷ ss) ≡ None
+    → ((leaves_scans s || (alone && is_combiner s.kind)) ≡ false) × (first_beyond_scans priorities (alone || is_scan_only s.kind) ss ≡ None)
+beyond_none priorities alone s ss h = go (leaves_scans s || (alone && is_combiner s.kind)) h
+  where
+    go : (b : Bool) → cond b (Some (number_by priorities s)) (first_beyond_scans priorities (alone || is_scan_only s.kind) ss) ≡ None
+        → (b ≡ false) × (first_beyond_scans priorities (alone || is_scan_only s.kind) ss ≡ None)
+    go true k = absurd (no_number (number_by priorities s) k)
+    go false k = (refl, k)
+
+-- all others stay in scans
+pub scans-from_first_beyond_scans : (priorities : List ℕ) (alone : Bool) (ss : List IterSpec) → first_beyond_scans priorities alone ss ≡ None → AllByRecursion (λ s. leaves_scans s ≡ false) ss
+scans-from_first_beyond_scans priorities alone [] h = tt
+scans-from_first_beyond_scans priorities alone (s ∷ ss) h =
+    let k = beyond_none priorities alone s ss h in
+    ((either (leaves_scans s) (alone && is_combiner s.kind) k.0).0, scans-from_first_beyond_scans priorities (alone || is_scan_only s.kind) ss k.1)
+
+combines_no_more : (priorities : List ℕ) (alone : Bool) (ss : List IterSpec) → alone ≡ true → first_beyond_scans priorities alone ss ≡ None → AllByRecursion (λ t. is_combiner t.kind ≡ false) ss
+combines_no_more priorities alone [] a h = tt
+combines_no_more priorities alone (s ∷ ss) a h =
+    let k = beyond_none priorities alone s ss h in
+    (second alone (is_combiner s.kind) (either (leaves_scans s) (alone && is_combiner s.kind) k.0).1 a, combines_no_more priorities (alone || is_scan_only s.kind) ss (ap (λ b. b || is_scan_only s.kind) a) k.1)
+  where
+    second : (a b : Bool) → (a && b) ≡ false → a ≡ true → b ≡ false
+    second a b h k = grind arith
+
+-- and none combines behind one for scans alone
+pub distinct-from_first_beyond_scans : (priorities : List ℕ) (alone : Bool) (ss : List IterSpec) → first_beyond_scans priorities alone ss ≡ None → IsDistinct combines_behind ss
+unfolding IsDistinct
+distinct-from_first_beyond_scans priorities alone [] h = tt
+distinct-from_first_beyond_scans priorities alone (s ∷ ss) h =
+    let k = beyond_none priorities alone s ss h in
+    (behind (is_scan_only s.kind) refl k.1, distinct-from_first_beyond_scans priorities (alone || is_scan_only s.kind) ss k.1)
+  where
+    both : (a b : Bool) → b ≡ false → (a && b) ≡ false
+    both a b h = grind arith
+
+    last : (a b : Bool) → b ≡ true → (a || b) ≡ true
+    last a b h = grind arith
+
+    behind : (b : Bool) → is_scan_only s.kind ≡ b → first_beyond_scans priorities (alone || is_scan_only s.kind) ss ≡ None → AllByRecursion (λ t. combines_behind s t ≡ false) ss
+    behind true e k = all (λ t. is_combiner t.kind ≡ false) (λ t. combines_behind s t ≡ false) (λ t h. both (is_scan_only s.kind) (is_combiner t.kind) h) ss (combines_no_more priorities (alone || is_scan_only s.kind) ss (last alone (is_scan_only s.kind) e) k)
+      where
+        all : (P Q : IterSpec → Type 0) → ((t : IterSpec) → P t → Q t) → (ss : List IterSpec) → AllByRecursion P ss → AllByRecursion Q ss
+        all P Q f [] h = tt
+        all P Q f (t ∷ ts) h = (f t h.0, all P Q f ts h.1)
+    behind false e k = every ss
+      where
+        every : (ts : List IterSpec) → AllByRecursion (λ t. combines_behind s t ≡ false) ts
+        every [] = tt
+        every (t ∷ ts) = (ap (λ b. b && is_combiner t.kind) e, every ts)

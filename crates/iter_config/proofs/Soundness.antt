@@ -10,12 +10,12 @@ use Rattle.tablet_model.specs.Rules.{AreSound}
 use Rattle.iter_config.specs.Columns.{kind_refuses, refuses_delete}
 use Rattle.iter_config.specs.Limits.{IsLimited}
 use Rattle.iter_config.specs.Order.{IsConfig, NoneClashes}
-use Rattle.iter_config.specs.Rules.{in_base, is_cell_filter, is_combiner, is_full_combiner, is_full_under_versions, is_versions, out_of_order}
+use Rattle.iter_config.specs.Rules.{in_base, is_cell_filter, is_combiner, is_full_combiner, is_full_under_versions, is_versions, leaves_scans, out_of_order}
 use Rattle.iter_config.specs.RulesOf.{rules_of}
 use Rattle.iter_config.specs.Stages.{stage_of, stages_of}
 use Rattle.iter_config.specs.declared.iter_spec.IterSpec.{IterSpec}
 use Rattle.iter_config.specs.declared.iter_spec.Kind.{Kind}
-use Rattle.iter_config.specs.declared.iter_spec.Kind.TheVariants.{Filter, Versions, Combine}
+use Rattle.iter_config.specs.declared.iter_spec.Kind.TheVariants.{Filter, Versions, Combine, WholeRow, Intersecting}
 use Rattle.iter_config.proofs.Following.{all_short, base_accepted, one_column, scans_apart}
 use Rattle.iter_config.proofs.FilterStages.{filter_is}
 use Rattle.iter_config.proofs.Truths.{both_false, not_true}
@@ -29,11 +29,15 @@ full_of : (kind : Kind) → is_full (stage_of kind) ≡ is_full_combiner kind
 full_of (Filter p negate) = filter_is (λ s. is_full s ≡ false) p negate (λ e. refl) (λ e. refl)
 full_of (Versions max) = refl
 full_of (Combine op columns encoding deletes) = refl
+full_of WholeRow = refl
+full_of (Intersecting terms without) = refl
 
 not_newest : (kind : Kind) → is_versions kind ≡ false → IsNotNewest (stage_of kind)
 not_newest (Filter p negate) h = filter_is IsNotNewest p negate (λ e. tt) (λ e. tt)
 not_newest (Versions max) h = absurd (let k : true ≡ false = h in cc)
 not_newest (Combine op columns encoding deletes) h = tt
+not_newest WholeRow h = tt
+not_newest (Intersecting terms without) h = tt
 
 -- behind a full combiner of major compactions stand no versions of theirs
 behind_full : (s : IterSpec) (ss : List IterSpec) → s.scopes.majc ≡ true → is_full_combiner s.kind ≡ true → AllByRecursion (λ t. is_full_under_versions s t ≡ false) ss
@@ -57,6 +61,8 @@ full_combines : (kind : Kind) → is_combiner kind ≡ false → is_full_combine
 full_combines (Filter p negate) h = refl
 full_combines (Versions max) h = refl
 full_combines (Combine op columns encoding deletes) h = absurd (let k : true ≡ false = h in cc)
+full_combines WholeRow h = refl
+full_combines (Intersecting terms without) h = refl
 
 -- behind versions no combiner of compactions stands
 behind_versions : (s : IterSpec) (ss : List IterSpec) → is_versions s.kind ≡ true → AllByRecursion (λ t. out_of_order s t ≡ false) ss → list_any is_full (stages_of (majors ss)) ≡ false
@@ -85,6 +91,8 @@ never_newest (s ∷ ss) order under h = go s.scopes.majc refl h (never_newest ss
     full_first (Filter p negate) e = refl
     full_first (Versions max) e = absurd (let t : false ≡ true = e in cc)
     full_first (Combine op columns encoding deletes) e = refl
+    full_first WholeRow e = refl
+    full_first (Intersecting terms without) e = refl
 
     here : (f : Bool) → is_full_combiner s.kind ≡ f → s.scopes.majc ≡ true → (f || list_any is_full (stages_of (majors ss))) ≡ true
         → (list_any is_full (stages_of (majors ss)) ≡ true → AllByRecursion IsNotNewest (stages_of (majors ss))) → AllByRecursion IsNotNewest (stages_of (s ∷ majors ss))
@@ -100,6 +108,8 @@ deletable_kind : (e : Cell) (kind : Kind) → kind_refuses e.key.family e.key.qu
 unfolding column_listed
 deletable_kind e (Filter p negate) h = filter_is (IsDeletable e) p negate (λ k. tt) (λ k. tt)
 deletable_kind e (Versions max) h = tt
+deletable_kind e WholeRow h = tt
+deletable_kind e (Intersecting terms without) h = tt
 deletable_kind e (Combine op columns encoding deletes) h = λ k. sym (ap (λ b. not b && is_listed columns e.key.family e.key.qualifier) k) ∙ h
 
 -- a column that takes deletes has no combiner that refuses them
@@ -128,7 +138,7 @@ majc_in_base s h = go s.scopes.minc
 pub sound : (specs : List IterSpec) → IsConfig specs → AreSound (rules_of specs)
 unfolding rules_of
 sound specs h = record {
-  accepted = base_accepted specs (recursion_from_All (λ s. IsLimited s.kind) specs h.limits) h.base_order h.apart;
+  accepted = base_accepted specs (recursion_from_All (λ s. IsLimited s.kind) specs h.limits) (recursion_from_All (λ s. leaves_scans s ≡ false) specs h.in_scans) h.base_order h.apart;
   short = all_short (filter in_base specs);
   apart = scans_apart specs (base_first specs h.prefixes) h.apart;
   minor_first = stands_first (λ s. s.scopes.minc) minc_in_base specs (minc_first specs h.prefixes);

@@ -5,7 +5,7 @@ use Rattle.cell_key.specs.Listed.{is_listed}
 use Rattle.number_values.specs.Values.{reduction_of}
 use Rattle.iter_config.specs.Rules.{is_of_deletes}
 use Rattle.iter_config.specs.declared.iter_spec.Kind.{Kind}
-use Rattle.iter_config.specs.declared.iter_spec.Kind.TheVariants.{Filter, Versions, Combine}
+use Rattle.iter_config.specs.declared.iter_spec.Kind.TheVariants.{Filter, Versions, Combine, WholeRow, Intersecting}
 use Rattle.iter_config.specs.declared.iter_spec.IterSpec.{IterSpec}
 
 -- a combiner without deletes combines the columns of this family and qualifier
@@ -13,6 +13,8 @@ abbrev pub kind_refuses : List ℕ → List ℕ → Kind → Bool
 kind_refuses family qualifier (Filter predicate negate) = false
 kind_refuses family qualifier (Versions max) = false
 kind_refuses family qualifier (Combine op columns encoding deletes) = not (is_of_deletes deletes) && is_listed columns family qualifier
+kind_refuses family qualifier WholeRow = false
+kind_refuses family qualifier (Intersecting terms without) = false
 
 -- whether a configuration takes no delete of these columns: one of its combiners refuses it
 unfoldable pub refuses_delete : List IterSpec → List ℕ → List ℕ → Bool
@@ -23,6 +25,8 @@ abbrev pub kind_reads : List ℕ → List ℕ → List ℕ → Kind → Bool
 kind_reads family qualifier value (Filter predicate negate) = true
 kind_reads family qualifier value (Versions max) = true
 kind_reads family qualifier value (Combine op columns encoding deletes) = not (is_listed columns family qualifier) || (reduction_of op encoding).reads value
+kind_reads family qualifier value WholeRow = true
+kind_reads family qualifier value (Intersecting terms without) = true
 
 -- whether a configuration takes a value in these columns: each of their combiners reads it
 unfoldable pub reads_value : List IterSpec → List ℕ → List ℕ → List ℕ → Bool

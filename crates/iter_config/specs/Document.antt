@@ -1,5 +1,5 @@
 -- The configuration that a document is, or the first rule that it breaks. All of this is this project's own; the text is TOML.
-use Rattle.std.specs.Prelude.{ℕ, ◌+◌, nat_le, if◌then◌else◌, List, [], ◌∷◌, map, Option, Some, None, codes, Result, Ok, Err}
+use Rattle.std.specs.Prelude.{ℕ, ◌+◌, false, nat_le, if◌then◌else◌, List, [], ◌∷◌, map, Option, Some, None, codes, Result, Ok, Err}
 use Rattle.std.specs.Str.{is_utf8}
 use Rattle.toml.specs.Data.{Data, Items, no_items, item, Members, as_array, get_member}
 use Rattle.toml.specs.Parse.{parse_document}
@@ -7,10 +7,10 @@ use Rattle.iter_config.specs.Faults.{Fault, fault}
 use Rattle.iter_config.specs.Fields.{keys_within}
 use Rattle.iter_config.specs.Iterators.{iterators_from}
 use Rattle.iter_config.specs.Order.{in_priority_order}
-use Rattle.iter_config.specs.Rules.{all_scopes, first_breaking, first_gap, first_repeat, first_unscanned}
+use Rattle.iter_config.specs.Rules.{all_scopes, first_beyond_scans, first_breaking, first_gap, first_repeat, first_unscanned}
 use Rattle.iter_config.specs.declared.iter_spec.IterSpec.{IterSpec}
 use Rattle.iter_config.specs.declared.error.Rule.{Rule}
-use Rattle.iter_config.specs.declared.error.Rule.TheVariants.{Toml, Field, Name, Priority, NoScan, NotPrefix, Order, Overlap, FullUnderVersions}
+use Rattle.iter_config.specs.declared.error.Rule.TheVariants.{Toml, Field, Name, Priority, NoScan, NotPrefix, ScanOnly, Order, Overlap, FullUnderVersions}
 
 -- the document of some bytes, which have to be UTF-8
 abbrev pub document_of : List ℕ → Option Members
@@ -46,10 +46,11 @@ unfoldable pub in_order : List ℕ → List IterSpec → Result (List IterSpec) 
 in_order priorities specs =
     broken_by NoScan (first_unscanned priorities specs)
     (broken_by NotPrefix (first_gap priorities all_scopes specs)
+    (broken_by ScanOnly (first_beyond_scans priorities false specs)
     (broken_by Order (first_breaking Order priorities specs)
     (broken_by Overlap (first_breaking Overlap priorities specs)
     (broken_by FullUnderVersions (first_breaking FullUnderVersions priorities specs)
-    (Ok specs)))))
+    (Ok specs))))))
 
 -- the priorities of some iterators
 abbrev pub priorities_of : List IterSpec → List ℕ

@@ -7,6 +7,7 @@ use Rattle.number_values.specs.declared.op.Op.{Op}
 use Rattle.iter_config.specs.Combiners.{combiner_of, op_of}
 use Rattle.iter_config.specs.Fields.{keys_within, name_in, number_in, scopes_in, shared_keys}
 use Rattle.iter_config.specs.Filters.{filter_of}
+use Rattle.iter_config.specs.ScanOnly.{whole_row_of, intersecting_of}
 use Rattle.iter_config.specs.declared.iter_spec.Kind.{Kind}
 use Rattle.iter_config.specs.declared.iter_spec.Kind.TheVariants.{Versions}
 use Rattle.iter_config.specs.declared.iter_spec.IterSpec.{IterSpec}
@@ -25,7 +26,10 @@ combiner_or_filter None word ms = filter_of word ms
 
 -- what the iterator of a table does, by the word of its kind
 unfoldable pub kind_of : List ℕ → Members → Option Kind
-kind_of word ms = if bytes_eq word (codes "versions") then versions_of ms else combiner_or_filter (op_of word) word ms
+kind_of word ms =
+    if bytes_eq word (codes "versions") then versions_of ms else
+    if bytes_eq word (codes "whole_row") then whole_row_of ms else
+    if bytes_eq word (codes "intersecting") then intersecting_of ms else combiner_or_filter (op_of word) word ms
 
 -- the iterator that a table describes
 unfoldable pub iterator_of : Data → Option IterSpec

@@ -3,6 +3,7 @@ pub mod Fields
 pub mod Names
 pub mod Filters
 pub mod Combiners
+pub mod ScanOnly
 pub mod Iterators
 pub mod Limits
 pub mod Rules

@@ -1,9 +1,9 @@
 -- The limits of an iterator's fields. All of this is this project's own.
-use Rattle.std.specs.Prelude.{ℕ, ◌≤◌, List, length, All, IfSome, ⊤}
+use Rattle.std.specs.Prelude.{ℕ, ◌+◌, ◌≤◌, List, length, All, IfSome, ⊤}
 use Rattle.tablet_model.specs.Limits.{max_names, max_part}
 use Rattle.cell_key.specs.declared.column_name.ColumnName.{ColumnName}
 use Rattle.iter_config.specs.declared.iter_spec.Kind.{Kind}
-use Rattle.iter_config.specs.declared.iter_spec.Kind.TheVariants.{Filter, Versions, Combine}
+use Rattle.iter_config.specs.declared.iter_spec.Kind.TheVariants.{Filter, Versions, Combine, WholeRow, Intersecting}
 use Rattle.iter_config.specs.declared.predicate.Predicate.{Predicate}
 use Rattle.iter_config.specs.declared.predicate.Predicate.TheVariants.{Family, QualifierSlice, VisibilitySet, Grep, Times}
 
@@ -23,6 +23,10 @@ IsShortColumn column = IsShortName column.family × IfSome column.qualifier IsSh
 abbrev pub AreColumns : List ColumnName → Type 0
 AreColumns columns = (1 ≤ length columns) × (length columns ≤ max_names) × All IsShortColumn columns
 
+-- 1 term at least, and 16 at most with those that documents are to be without
+abbrev pub AreTerms : List (List ℕ) → List (List ℕ) → Type 0
+AreTerms terms without = (1 ≤ length terms) × (length terms + length without ≤ 16) × All IsShortName terms × All IsShortName without
+
 -- what a filter tests is within its fields' limits
 abbrev pub IsLimitedTest : Predicate → Type 0
 IsLimitedTest (Family families) = AreNames families
@@ -36,3 +40,5 @@ abbrev pub IsLimited : Kind → Type 0
 IsLimited (Filter predicate negate) = IsLimitedTest predicate
 IsLimited (Versions max) = (1 ≤ max) × (max ≤ 1000)
 IsLimited (Combine op columns encoding deletes) = AreColumns columns
+IsLimited WholeRow = ⊤
+IsLimited (Intersecting terms without) = AreTerms terms without

@@ -32,6 +32,15 @@ names_in d = do
   names ← names_of ds
   if nat_le 1 (length names) && nat_le (length names) max_names then Some names else None
 
+-- names, as many as there are
+abbrev pub listed_in : Data → Option (List (List ℕ))
+listed_in d = as_array d >>= names_of
+
+-- names, or none where nothing stands there
+abbrev pub listed_or_none : Option Data → Option (List (List ℕ))
+listed_or_none None = Some []
+listed_or_none (Some d) = listed_in d
+
 -- a name, if anything stands there
 abbrev pub name_or_none : Option Data → Option (Option (List ℕ))
 name_or_none None = Some None

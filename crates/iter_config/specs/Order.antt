@@ -1,10 +1,10 @@
 -- The order of priorities, and what configurations keep.
-use Rattle.std.specs.Prelude.{◌≡◌, ◌≤◌, Bool, true, nat_lt, List, length, All}
+use Rattle.std.specs.Prelude.{◌≡◌, ◌≤◌, Bool, true, false, nat_lt, List, length, All}
 use Rattle.std.specs.List.{IsDistinct}
 use Rattle.std.specs.List.Sorted.{IsNonDecreasingBy}
 use Rattle.tablet_model.specs.Sorted.{sorted}
 use Rattle.iter_config.specs.Limits.{IsLimited}
-use Rattle.iter_config.specs.Rules.{is_full_under_versions, leaves_gap, out_of_order, same_name, same_priority, shares_column}
+use Rattle.iter_config.specs.Rules.{combines_behind, is_full_under_versions, leaves_gap, leaves_scans, out_of_order, same_name, same_priority, shares_column}
 use Rattle.iter_config.specs.declared.iter_spec.IterSpec.{IterSpec}
 
 -- an iterator runs behind another (Accumulo: the one with the higher priority number)
@@ -20,8 +20,9 @@ abbrev pub NoneClashes : (IterSpec → IterSpec → Bool) → List IterSpec → 
 NoneClashes clash specs = IsDistinct clash specs
 
 -- what each configuration keeps (this project's rules): at most 16 iterators; the fields' limits; no name and no priority twice; the order of
--- priorities; all run in scans; those of minor and of major compactions come first; the order of those; no column is combined twice; no versions in
--- major compactions behind a combiner of columns with deletes
+-- priorities; all run in scans; those of minor and of major compactions come first; whole rows and intersections run in scans alone, and no combiner
+-- behind them; the order of those of compactions; no column is combined twice; no versions in major compactions behind a combiner of columns with
+-- deletes
 pub record IsConfig (specs : List IterSpec) : Type 0 where
   pub few : length specs ≤ 16
   pub limits : All (λ s. IsLimited s.kind) specs
@@ -30,6 +31,8 @@ pub record IsConfig (specs : List IterSpec) : Type 0 where
   pub order : IsNonDecreasingBy (λ s. s.priority) specs
   pub scans : All (λ s. s.scopes.scan ≡ true) specs
   pub prefixes : NoneClashes leaves_gap specs
+  pub in_scans : All (λ s. leaves_scans s ≡ false) specs
+  pub uncombined : NoneClashes combines_behind specs
   pub base_order : NoneClashes out_of_order specs
   pub apart : NoneClashes shares_column specs
   pub not_newest : NoneClashes is_full_under_versions specs

@@ -5,12 +5,12 @@ use Rattle.std.specs.Str.{bytes_eq}
 use Rattle.cell_key.specs.declared.column_name.ColumnName.{ColumnName}
 use Rattle.iter_config.specs.Predicates.{is_of_column}
 use Rattle.iter_config.specs.declared.error.Rule.{Rule}
-use Rattle.iter_config.specs.declared.error.Rule.TheVariants.{Toml, Field, Name, Priority, NoScan, NotPrefix, Order, Overlap, FullUnderVersions}
+use Rattle.iter_config.specs.declared.error.Rule.TheVariants.{Toml, Field, Name, Priority, NoScan, NotPrefix, ScanOnly, Order, Overlap, FullUnderVersions}
 use Rattle.iter_config.specs.declared.iter_spec.Deletes.{Deletes}
 use Rattle.iter_config.specs.declared.iter_spec.Deletes.TheVariants as deletes
 use Rattle.iter_config.specs.declared.iter_spec.IterSpec.{IterSpec}
 use Rattle.iter_config.specs.declared.iter_spec.Kind.{Kind}
-use Rattle.iter_config.specs.declared.iter_spec.Kind.TheVariants.{Filter, Versions, Combine}
+use Rattle.iter_config.specs.declared.iter_spec.Kind.TheVariants.{Filter, Versions, Combine, WholeRow, Intersecting}
 use Rattle.iter_config.specs.declared.iter_spec.Scopes.{Scopes}
 
 -- two iterators have one name
@@ -38,18 +38,40 @@ abbrev pub is_cell_filter : Kind → Bool
 is_cell_filter (Filter predicate negate) = not (is_of_column predicate)
 is_cell_filter (Versions max) = false
 is_cell_filter (Combine op columns encoding deletes) = false
+is_cell_filter WholeRow = false
+is_cell_filter (Intersecting terms without) = false
 
 -- an iterator that counts versions
 abbrev pub is_versions : Kind → Bool
 is_versions (Filter predicate negate) = false
 is_versions (Versions max) = true
 is_versions (Combine op columns encoding deletes) = false
+is_versions WholeRow = false
+is_versions (Intersecting terms without) = false
 
 -- a combiner
 abbrev pub is_combiner : Kind → Bool
 is_combiner (Filter predicate negate) = false
 is_combiner (Versions max) = false
 is_combiner (Combine op columns encoding deletes) = true
+is_combiner WholeRow = false
+is_combiner (Intersecting terms without) = false
+
+-- what runs in scans alone: it shows entries that stand for rows or documents
+abbrev pub is_scan_only : Kind → Bool
+is_scan_only (Filter predicate negate) = false
+is_scan_only (Versions max) = false
+is_scan_only (Combine op columns encoding deletes) = false
+is_scan_only WholeRow = true
+is_scan_only (Intersecting terms without) = true
+
+-- it runs in compactions, but is for scans alone
+abbrev pub leaves_scans : IterSpec → Bool
+leaves_scans s = is_scan_only s.kind && in_base s
+
+-- the second combines what stands for rows or documents
+abbrev pub combines_behind : IterSpec → IterSpec → Bool
+combines_behind s t = is_scan_only s.kind && is_combiner t.kind
 
 -- what may not follow in compactions: behind versions anything but a filter of columns; a cell filter and a combiner beside each other
 abbrev pub is_disordered : Kind → Kind → Bool
@@ -66,6 +88,8 @@ abbrev pub listed_columns : Kind → List ColumnName
 listed_columns (Filter predicate negate) = []
 listed_columns (Versions max) = []
 listed_columns (Combine op columns encoding deletes) = columns
+listed_columns WholeRow = []
+listed_columns (Intersecting terms without) = []
 
 -- two parts of names may be of one column: a missing one is each qualifier
 abbrev pub qualifiers_meet : Option (List ℕ) → Option (List ℕ) → Bool
@@ -91,6 +115,8 @@ abbrev pub is_full_combiner : Kind → Bool
 is_full_combiner (Filter predicate negate) = false
 is_full_combiner (Versions max) = false
 is_full_combiner (Combine op columns encoding deletes) = is_of_deletes deletes
+is_full_combiner WholeRow = false
+is_full_combiner (Intersecting terms without) = false
 
 -- in major compactions the second counts versions behind a combiner of columns with deletes
 abbrev pub is_full_under_versions : IterSpec → IterSpec → Bool
@@ -104,6 +130,7 @@ clashes Name s t = same_name s t
 clashes Priority s t = same_priority s t
 clashes NoScan s t = false
 clashes NotPrefix s t = false
+clashes ScanOnly s t = false
 clashes Order s t = out_of_order s t
 clashes Overlap s t = shares_column s t
 clashes FullUnderVersions s t = is_full_under_versions s t
@@ -143,3 +170,11 @@ all_scopes = record { scan = true; minc = true; majc = true }
 abbrev pub first_gap : List ℕ → Scopes → List IterSpec → Option ℕ
 first_gap priorities before [] = None
 first_gap priorities before (s ∷ ss) = if scopes_gap before s.scopes then Some (number_by priorities s) else first_gap priorities s.scopes ss
+
+-- the number of the first iterator in priority order that leaves scans, or that is a combiner behind one for scans alone; `alone` says whether
+-- one for scans alone stands before these
+abbrev pub first_beyond_scans : List ℕ → Bool → List IterSpec → Option ℕ
+first_beyond_scans priorities alone [] = None
+first_beyond_scans priorities alone (s ∷ ss) =
+    if leaves_scans s || (alone && is_combiner s.kind) then Some (number_by priorities s)
+    else first_beyond_scans priorities (alone || is_scan_only s.kind) ss

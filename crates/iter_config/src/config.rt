@@ -89,7 +89,8 @@ fn kind_refuses(kind: &Kind, family: &[u8], qualifier: &[u8]) -> bool
             deletes,
             ..
         } => *deletes == Deletes::None && columns.lists(family, qualifier),
-        Kind::Filter { .. } | Kind::Versions { .. } => false,
+        Kind::Filter { .. } | Kind::Versions { .. } | Kind::WholeRow | Kind::Intersecting { .. } =>
+            false,
     }
 }
 
@@ -113,7 +114,8 @@ fn kind_reads(kind: &Kind, family: &[u8], qualifier: &[u8], value: &[u8]) -> boo
             encoding,
             ..
         } => !columns.lists(family, qualifier) || op.reads(*encoding, value),
-        Kind::Filter { .. } | Kind::Versions { .. } => true,
+        Kind::Filter { .. } | Kind::Versions { .. } | Kind::WholeRow | Kind::Intersecting { .. } =>
+            true,
     }
 }
 

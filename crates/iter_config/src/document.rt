@@ -14,7 +14,7 @@ use crate::error::{ConfigError, Rule};
 use crate::fields::{find, has_only};
 use crate::iter_spec::IterSpec;
 use crate::iterators::{MAX_ITERATORS, iterators_in};
-use crate::rules::{first_breaking, first_gap, first_repeat, first_unscanned};
+use crate::rules::{first_beyond_scans, first_breaking, first_gap, first_repeat, first_unscanned};
 use cell_key::NoMemory;
 use std::alloc::Global;
 use toml::value::Table;
@@ -91,6 +91,9 @@ fn in_order(priorities: &[u32], iterators: Vec<IterSpec>) -> Result<Config, Conf
     }
     if let Some(at) = first_gap(priorities, &iterators) {
         return Err(broken(Rule::NotPrefix, at));
+    }
+    if let Some(at) = first_beyond_scans(priorities, &iterators) {
+        return Err(broken(Rule::ScanOnly, at));
     }
     if let Some(at) = first_breaking(Rule::Order, priorities, &iterators) {
         return Err(broken(Rule::Order, at));

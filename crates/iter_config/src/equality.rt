@@ -58,6 +58,17 @@ fn same_kind(a: &Kind, b: &Kind) -> bool
             && same_columns(c.as_slice(), columns.as_slice())
             && e == encoding
             && d == deletes,
+        (Kind::WholeRow, Kind::WholeRow) => true,
+        (
+            Kind::Intersecting {
+                terms: t,
+                without: w,
+            },
+            Kind::Intersecting { terms, without },
+        ) => {
+            same_names(t.as_slice(), terms.as_slice())
+                && same_names(w.as_slice(), without.as_slice())
+        }
         _ => false,
     }
 }

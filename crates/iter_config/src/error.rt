@@ -18,6 +18,8 @@ pub enum Rule {
     NoScan,
     /// An iterator runs in a kind of compaction only if the one before it in priority order does.
     NotPrefix,
+    /// Whole rows and intersections run in scans alone, and no combiner follows one.
+    ScanOnly,
     /// In compactions only filters of columns follow `versions`, and no filter of whole entries stands beside a
     /// combiner.
     Order,

@@ -1,6 +1,6 @@
 //! What one iterator is configured as.
 use crate::predicate::Predicate;
-use cell_key::{ByteText, Columns};
+use cell_key::{ByteText, Columns, Names};
 use number_values::{Encoding, Op};
 
 /// Where an iterator runs (Accumulo's iterator scopes).
@@ -41,6 +41,14 @@ pub enum Kind {
         columns: Columns,
         encoding: Encoding,
         deletes: Deletes,
+    },
+    /// It makes one entry of each row (Accumulo's WholeRowIterator). It runs in scans alone.
+    WholeRow,
+    /// It makes one entry of each document of a row that has all terms, and none of those under `without` (Accumulo's
+    /// IntersectingIterator; a row is a partition, a family a term and a qualifier a document). It runs in scans alone.
+    Intersecting {
+        terms: Names,
+        without: Names,
     },
 }
 

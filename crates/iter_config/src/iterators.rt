@@ -10,6 +10,7 @@ use crate::error::{ConfigError, FieldError, Rule};
 use crate::fields::{has_only, member, name_in, number_in, scopes_in, table_in, text_in};
 use crate::filters::filter_of;
 use crate::iter_spec::{IterSpec, Kind};
+use crate::scan_only::{intersecting_of, whole_row_of};
 use std::alloc::Global;
 use toml::value::{Array, Table, Value};
 
@@ -43,6 +44,12 @@ fn kind_of(alloc: Global, word: &[u8], table: &Table) -> Result<Kind, FieldError
 {
     if word == b"versions".as_slice() {
         return versions_of(table);
+    }
+    if word == b"whole_row".as_slice() {
+        return whole_row_of(table);
+    }
+    if word == b"intersecting".as_slice() {
+        return intersecting_of(alloc, table);
     }
     match op_of(word) {
         Some(op) => combiner_of(alloc, op, table),

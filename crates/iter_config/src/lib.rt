@@ -14,6 +14,7 @@ mod laws;
 mod names;
 mod predicate;
 mod rules;
+mod scan_only;
 
 pub use cell_key::{ColumnName, Columns, Names};
 pub use config::Config;

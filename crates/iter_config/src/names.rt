@@ -4,7 +4,7 @@ ghost use Rattle.toml.specs.Data.{as_str, get_member};
 ghost use Rattle.toml.specs.View.{array_view, table_view, view};
 ghost use Rattle.iter_config.specs.Faults.{Gives};
 ghost use Rattle.iter_config.specs.Limits.{AreColumns, AreNames, IsShortColumn, IsShortName};
-ghost use Rattle.iter_config.specs.Names.{column_at, column_of, columns_in, columns_of, name_of, name_or_none, names_in, names_of, spelled_in};
+ghost use Rattle.iter_config.specs.Names.{column_at, column_of, columns_in, columns_of, listed_in, listed_or_none, name_of, name_or_none, names_in, names_of, spelled_in};
 
 use crate::error::FieldError;
 use crate::fields::{array_in, find, text_in};
@@ -75,6 +75,26 @@ pub fn names_in(alloc: Global, value: &Value) -> Result<Names, FieldError>
         Ok(names)
     } else {
         Err(FieldError::Field)
+    }
+}
+
+/// Some names, as many as there are.
+pub fn listed_in(alloc: Global, value: &Value) -> Result<Names, FieldError>
+    ensures names { Gives (λ n. n) (listed_in (view value.now)) result }
+    ensures short { IfOk result (λ n. All IsShortName n) }
+{
+    let items = array_in(value)?;
+    names_of(alloc, items)
+}
+
+/// The names under a key, which are none where nothing stands there.
+pub fn listed_or_none(alloc: Global, table: &Table, key: &str) -> Result<Names, FieldError>
+    ensures names { Gives (λ n. n) (listed_or_none (get_member key.now (table_view table.now))) result }
+    ensures short { IfOk result (λ n. All IsShortName n) }
+{
+    match find(table, key) {
+        Some(value) => listed_in(alloc, value),
+        None => Ok(Names::new(alloc)),
     }
 }
 

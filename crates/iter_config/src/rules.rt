@@ -1,8 +1,8 @@
 //! The rules between two iterators, and the first iterator that breaks one.
-ghost use Rattle.std.specs.Prelude.{◌≡◌, ◌==◌, ◌<◌, ◌≤◌, IfSome, length, position};
+ghost use Rattle.std.specs.Prelude.{◌≡◌, ◌==◌, ◌<◌, ◌≤◌, false, IfSome, length, position};
 ghost use Rattle.std.specs.List.{list_any};
 ghost use Rattle.cell_key.specs.declared.column_name.ColumnName.{ColumnName};
-ghost use Rattle.iter_config.specs.Rules.{all_scopes, clashes, first_breaking, first_gap, first_repeat, first_unscanned, in_base, is_cell_filter, is_combiner, is_disordered, is_full_combiner, is_full_under_versions, is_of_deletes, is_versions, listed_columns, names_meet, number_by, out_of_order, qualifiers_meet, scopes_gap, shares_column};
+ghost use Rattle.iter_config.specs.Rules.{all_scopes, clashes, first_beyond_scans, first_breaking, first_gap, first_repeat, first_unscanned, in_base, is_cell_filter, is_combiner, is_disordered, is_full_combiner, is_full_under_versions, is_of_deletes, is_scan_only, is_versions, leaves_scans, listed_columns, names_meet, number_by, out_of_order, qualifiers_meet, scopes_gap, shares_column};
 
 use crate::error::Rule;
 use crate::iter_spec::{Deletes, IterSpec, Kind, Scopes};
@@ -22,7 +22,8 @@ fn is_cell_filter(kind: &Kind) -> bool
 {
     match kind {
         Kind::Filter { predicate, .. } => !predicate.is_of_column(),
-        Kind::Versions { .. } | Kind::Combine { .. } => false,
+        Kind::Versions { .. } | Kind::Combine { .. } | Kind::WholeRow | Kind::Intersecting { .. } =>
+            false,
     }
 }
 
@@ -31,7 +32,8 @@ fn is_versions(kind: &Kind) -> bool
 {
     match kind {
         Kind::Versions { .. } => true,
-        Kind::Filter { .. } | Kind::Combine { .. } => false,
+        Kind::Filter { .. } | Kind::Combine { .. } | Kind::WholeRow | Kind::Intersecting { .. } =>
+            false,
     }
 }
 
@@ -40,8 +42,26 @@ fn is_combiner(kind: &Kind) -> bool
 {
     match kind {
         Kind::Combine { .. } => true,
-        Kind::Filter { .. } | Kind::Versions { .. } => false,
+        Kind::Filter { .. } | Kind::Versions { .. } | Kind::WholeRow | Kind::Intersecting { .. } =>
+            false,
     }
+}
+
+/// Whether it shows entries that stand for rows or documents, as scans alone may.
+fn is_scan_only(kind: &Kind) -> bool
+    ensures { result ≡ is_scan_only kind.now }
+{
+    match kind {
+        Kind::WholeRow | Kind::Intersecting { .. } => true,
+        Kind::Filter { .. } | Kind::Versions { .. } | Kind::Combine { .. } => false,
+    }
+}
+
+/// Whether it runs in compactions, but is for scans alone.
+fn leaves_scans(spec: &IterSpec) -> bool
+    ensures { result ≡ leaves_scans spec.now }
+{
+    is_scan_only(&spec.kind) && (spec.scopes.minc || spec.scopes.majc)
 }
 
 /// Whether the second may not follow the first in compactions.
@@ -68,7 +88,8 @@ fn listed_columns(kind: &Kind) -> &[ColumnName]
 {
     match kind {
         Kind::Combine { columns, .. } => columns.as_slice(),
-        Kind::Filter { .. } | Kind::Versions { .. } => &[],
+        Kind::Filter { .. } | Kind::Versions { .. } | Kind::WholeRow | Kind::Intersecting { .. } =>
+            &[],
     }
 }
 
@@ -112,7 +133,8 @@ fn is_full_combiner(kind: &Kind) -> bool
 {
     match kind {
         Kind::Combine { deletes, .. } => *deletes == Deletes::Full,
-        Kind::Filter { .. } | Kind::Versions { .. } => false,
+        Kind::Filter { .. } | Kind::Versions { .. } | Kind::WholeRow | Kind::Intersecting { .. } =>
+            false,
     }
 }
 
@@ -131,7 +153,7 @@ fn clashes(rule: Rule, first: &IterSpec, second: &IterSpec) -> bool
     ensures { result ≡ clashes rule first.now second.now }
 {
     match rule {
-        Rule::Toml | Rule::Field | Rule::NoScan | Rule::NotPrefix => false,
+        Rule::Toml | Rule::Field | Rule::NoScan | Rule::NotPrefix | Rule::ScanOnly => false,
         Rule::Name => first.name.bytes() == second.name.bytes(),
         Rule::Priority => first.priority == second.priority,
         Rule::Order => out_of_order(first, second),
@@ -220,6 +242,21 @@ pub fn first_gap(priorities: &[u32], iterators: &[IterSpec]) -> Option<u32>
             return Some(number_by(priorities, spec));
         }
         before = spec.scopes;
+    }
+    None
+}
+
+/// The number of the first iterator in priority order that leaves scans, or is a combiner behind one for scans alone.
+pub fn first_beyond_scans(priorities: &[u32], iterators: &[IterSpec]) -> Option<u32>
+    requires { length priorities.now ≤ MAX_ITERATORS }
+    ensures { result ≡ first_beyond_scans priorities.now false iterators.now }
+{
+    let mut alone = false;
+    for spec in iterators {
+        if leaves_scans(spec) || (alone && is_combiner(&spec.kind)) {
+            return Some(number_by(priorities, spec));
+        }
+        alone = alone || is_scan_only(&spec.kind);
     }
     None
 }

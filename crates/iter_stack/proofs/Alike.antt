@@ -1,11 +1,13 @@
 -- Stages of one meaning take and make the same.
-use Rattle.std.proofs.Common.{◌≡◌, ◌≢◌, ℤ, Bool, true, false, ◌&&◌, cond, List, [], Option, refl, ap, sym, ◌∙◌, subst}
+use Rattle.std.proofs.Common.{◌≡◌, ◌≢◌, ◌≤◌, ◌+◌, ℕ, ℤ, Bool, true, false, ◌&&◌, cond, List, [], length, Option, refl, ap, sym, ◌∙◌, subst}
 use Rattle.std.specs.Prelude.{⊤}
 use Rattle.std.specs.Arc.{arc_value}
 use Rattle.tablet_model.specs.Cell.{Cell}
 use Rattle.tablet_model.specs.Cuts.{is_before}
 use Rattle.tablet_model.specs.Combines.{combined}
 use Rattle.tablet_model.specs.Filters.{filtered}
+use Rattle.tablet_model.specs.Rows.{intersected}
+use Rattle.tablet_model.specs.RowText.{whole_rows}
 use Rattle.tablet_model.specs.Reductions.{Reduction}
 use Rattle.tablet_model.specs.Stages.{by_column, by_cell, stage}
 use Rattle.cell_key.specs.Listed.{column_listed}
@@ -25,6 +27,9 @@ use Rattle.combiners.specs.declared.long_reducer.LongReducer.{LongReducer}
 use Rattle.combiners.specs.declared.stage.CombineStage.{CombineStage}
 use Rattle.filters.specs.FilterStages.{test_of, filter_made}
 use Rattle.filters.specs.declared.filter_stage.FilterStage.{FilterStage}
+use Rattle.intersecting.specs.declared.stage.IntersectStage.{IntersectStage}
+use Rattle.whole_row.specs.RowLists.{AreLive}
+use Rattle.whole_row.specs.declared.stage.RowStage.{RowStage}
 use Rattle.iter_config.specs.Predicates.{is_of_column, keeps, filter_stage}
 use Rattle.iter_config.specs.declared.predicate.Predicate.{Predicate}
 use Rattle.stages.specs.Passes.{shown}
@@ -70,26 +75,26 @@ module _ (columns : List ColumnName) (r : Reduction) (steady : Bool → Bool) wh
       subst (λ n. AreCombinable n (reduction s.reducer) list) (sym c) (subst (λ q. AreRead columns q list) (sym e) t.0, t.1)
 
   pub fresh_longs : (s : CombineStage LongReducer) → arc_value s.columns ≡ columns → long_reduction s.reducer ≡ r → s.is_sought ≡ false → ((source : Bool) → (source && true) ≡ steady source)
-      → IsFresh (combined (column_listed columns) r) steady (AreCombinable columns r) (level.CombineLongs s)
+      → IsFresh (combined (column_listed columns) r) steady (AreCombinable columns r) (λ count. ⊤) (level.CombineLongs s)
   fresh_longs s c e unsought same = record {
     same_cells = λ list. combined_alike c e refl;
-    unsought = combine_unsought long_reduction long_joined s unsought [];
+    unsought = λ list. combine_unsought long_reduction long_joined s unsought [];
     same_steady = same;
-    takes = λ list t. combine_fits long_reduction long_joined s unsought list (taken long_reduction s c e list t);
+    takes = λ count all list t counted same. combine_fits long_reduction long_joined s unsought list (taken long_reduction s c e list t);
   }
 
   pub fresh_arrays : (s : CombineStage ArrayReducer) → arc_value s.columns ≡ columns → array_reducer_reduction s.reducer ≡ r → s.is_sought ≡ false → ((source : Bool) → (source && false) ≡ steady source)
-      → IsFresh (combined (column_listed columns) r) steady (AreCombinable columns r) (level.CombineArrays s)
+      → IsFresh (combined (column_listed columns) r) steady (AreCombinable columns r) (λ count. ⊤) (level.CombineArrays s)
   fresh_arrays s c e unsought same = record {
     same_cells = λ list. combined_alike c e refl;
-    unsought = combine_unsought array_reducer_reduction array_reducer_joined s unsought [];
+    unsought = λ list. combine_unsought array_reducer_reduction array_reducer_joined s unsought [];
     same_steady = same;
-    takes = λ list t. combine_fits array_reducer_reduction array_reducer_joined s unsought list (taken array_reducer_reduction s c e list t);
+    takes = λ count all list t counted same. combine_fits array_reducer_reduction array_reducer_joined s unsought list (taken array_reducer_reduction s c e list t);
   }
 
 -- the operations of numbers
 pub fresh_numbers : (columns : List ColumnName) (o : Op) (e : Encoding) → o ≢ op.ArraySum → (s : CombineStage LongReducer) → arc_value s.columns ≡ columns → long_reduction s.reducer ≡ number_reduction o e → s.is_sought ≡ false
-    → IsFresh (combined (column_listed columns) (reduction_of o e)) (λ source. cond (is_of_arrays o) false source) (AreCombinable columns (reduction_of o e)) (level.CombineLongs s)
+    → IsFresh (combined (column_listed columns) (reduction_of o e)) (λ source. cond (is_of_arrays o) false source) (AreCombinable columns (reduction_of o e)) (λ count. ⊤) (level.CombineLongs s)
 unfolding reduction_of
 fresh_numbers columns op.Sum e not s c h unsought = fresh_longs columns (number_reduction op.Sum e) (λ source. source) s c h unsought and_true
 fresh_numbers columns op.Min e not s c h unsought = fresh_longs columns (number_reduction op.Min e) (λ source. source) s c h unsought and_true
@@ -98,7 +103,7 @@ fresh_numbers columns op.ArraySum e not s c h unsought = absurd (not refl)
 
 -- and that of arrays
 pub fresh_sums : (columns : List ColumnName) (e : Encoding) (s : CombineStage ArrayReducer) → arc_value s.columns ≡ columns → array_reducer_reduction s.reducer ≡ array_reduction e → s.is_sought ≡ false
-    → IsFresh (combined (column_listed columns) (reduction_of op.ArraySum e)) (λ source. false) (AreCombinable columns (reduction_of op.ArraySum e)) (level.CombineArrays s)
+    → IsFresh (combined (column_listed columns) (reduction_of op.ArraySum e)) (λ source. false) (AreCombinable columns (reduction_of op.ArraySum e)) (λ count. ⊤) (level.CombineArrays s)
 unfolding reduction_of
 fresh_sums columns e s c h unsought = fresh_arrays columns (array_reduction e) (λ source. false) s c h unsought and_false
 
@@ -110,29 +115,29 @@ made_alike {F} {G} {A} {B} f e = ap (λ h. h A) f ∙ ap G e
 pub bottom_drop : (c : Cursor DropStage) (stage : DropStage) → c.stage ≡ stage → c.is_sought ≡ false → IsBottom (drop_made stage) (level.Drop c)
 bottom_drop c stage same unsought = record {
   same_cells = λ list. ap (λ s. drop_made s list) same;
-  unsought = λ rest. ap (λ b. cond b (shown drop_keeps drop_passed c.stage rest) []) unsought;
+  unsought = λ list rest. ap (λ b. cond b (shown drop_keeps drop_passed c.stage rest) []) unsought;
   same_steady = λ source. refl;
-  fits = λ list rest. tt;
+  fits = λ count all list rest. tt;
 }
 
 -- and a copy of one
 pub fresh_drop : (copy c : Cursor DropStage) → drop_made copy.stage ≡ drop_made c.stage → copy.is_sought ≡ false
-    → IsFresh (drop_made c.stage) (λ source. source) (λ list. ⊤) (level.Drop copy)
+    → IsFresh (drop_made c.stage) (λ source. source) (λ list. ⊤) (λ count. ⊤) (level.Drop copy)
 fresh_drop copy c same unsought = record {
   same_cells = λ list. ap (λ f. f list) same;
-  unsought = ap (λ b. cond b [] []) unsought;
+  unsought = λ list. ap (λ b. cond b [] []) unsought;
   same_steady = λ source. refl;
-  takes = λ list t. tt;
+  takes = λ count all list t counted same. tt;
 }
 
 -- a stage for any source is one for some
 pub fresh_bottom : {made other : List Cell → List Cell} {s : LevelStage} → IsBottom made s → ((list : List Cell) → made list ≡ other list)
-    → IsFresh other (λ source. source) (λ list. ⊤) s
+    → IsFresh other (λ source. source) (λ list. ⊤) (λ count. ⊤) s
 fresh_bottom bottom same = record {
   same_cells = λ list. bottom.same_cells list ∙ same list;
-  unsought = bottom.unsought [];
+  unsought = λ list. bottom.unsought list [];
   same_steady = bottom.same_steady;
-  takes = λ list t. bottom.fits list [];
+  takes = λ count all list t counted same. bottom.fits count all list [];
 }
 
 -- a filter makes what its iterator makes
@@ -144,3 +149,36 @@ filters_alike predicate negate s same list = ap (λ test. filtered test list) sa
     go : (b : Bool) → filtered (keeps predicate negate) list ≡ stage (cond b (by_column (keeps predicate negate)) (by_cell (keeps predicate negate))) list
     go true = refl
     go false = refl
+
+off : {X : Type 0} (b : Bool) (x y : X) → b ≡ false → cond b x y ≡ y
+off b x y h = ap (λ c. cond c x y) h
+
+-- a new stage of whole rows
+pub fresh_rows : (s : RowStage) → s.is_sought ≡ false → IsFresh whole_rows (λ source. false) AreLive (λ count. ⊤) (level.Rows s)
+fresh_rows s unsought = record {
+  same_cells = λ list. refl;
+  unsought = λ list. off s.is_sought _ [] unsought;
+  same_steady = λ source. refl;
+  takes = λ count all list live counted same. (live, λ sought. absurd (let no : true ≡ false = sym sought ∙ unsought in cc));
+}
+
+-- and one of an intersection
+pub fresh_intersect : (terms without : List (List ℕ)) (s : IntersectStage) → arc_value s.terms ≡ terms → arc_value s.without ≡ without → s.is_held ≡ false
+    → IsFresh (intersected terms without) (λ source. false) (λ list. 1 ≤ length terms) (λ count. count ≡ length terms + length without) (level.Intersect s)
+fresh_intersect terms without s t w unheld = record {
+  same_cells = λ list. ap (λ x. intersected x (arc_value s.without) list) t ∙ ap (λ x. intersected terms x list) w;
+  unsought = λ list. off s.is_held _ [] unheld;
+  same_steady = λ source. refl;
+  takes = λ count all list some counted same. (
+    same,
+    (
+      subst (λ x. 1 ≤ length x) (sym t) some,
+      counted ∙ sym (ap (λ x. length x + length (arc_value s.without)) t ∙ ap (λ x. length terms + length x) w),
+      λ held. absurd (let no : true ≡ false = sym held ∙ unheld in cc),
+    ),
+  );
+}
+
+-- intersections of the same terms make the same of equal lists
+pub intersected_alike : {t u w x : List (List ℕ)} {A B : List Cell} → t ≡ u → w ≡ x → A ≡ B → intersected t w A ≡ intersected u x B
+intersected_alike {t} {u} {w} {x} {A} {B} f g e = ap (λ k. intersected k w A) f ∙ ap (λ k. intersected u k A) g ∙ ap (intersected u x) e

@@ -1,4 +1,5 @@
 pub mod Alike
+pub mod NewLevels
 pub mod Steps
 pub mod Past
 pub mod Runs

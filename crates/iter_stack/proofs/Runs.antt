@@ -12,12 +12,12 @@ use Rattle.iter_config.specs.RulesOf.{rules_of}
 use Rattle.iter_config.specs.Stages.{stage_of, stages_of}
 use Rattle.iter_config.specs.declared.iter_spec.IterSpec.{IterSpec}
 use Rattle.iter_config.specs.declared.iter_spec.Kind.{Kind}
-use Rattle.iter_config.specs.declared.iter_spec.Kind.TheVariants.{Filter, Versions, Combine}
-use Rattle.iter_stack.specs.Usages.{runs_in, usage_cells, usage_steady, is_array_sum}
+use Rattle.iter_config.specs.declared.iter_spec.Kind.TheVariants.{Filter, Versions, Combine, WholeRow, Intersecting}
+use Rattle.iter_stack.specs.Usages.{runs_in, usage_cells, usage_steady, takes_memory}
 use Rattle.iter_stack.specs.Places.{bottom_cells}
 use Rattle.iter_stack.proofs.Steps.{all_made, steady_by_all}
 use Rattle.iter_stack.specs.declared.usage.Usage.{Usage}
-use Rattle.iter_stack.specs.declared.usage.Usage.TheVariants.{Scan, Minc, MajcPart, MajcFull}
+use Rattle.iter_stack.specs.declared.usage.Usage.TheVariants.{Scan, Minc, MajcPart, MajcFull, Pack}
 
 -- the iterators that run are the stages
 filtered_made : (usage : Usage) (specs : List IterSpec) (list : List Cell) → all_made usage specs list ≡ stages (stages_of (filter (runs_in usage) specs)) list
@@ -47,6 +47,8 @@ full_kind (Filter predicate negate) = go (is_of_column predicate)
     go false = refl
 full_kind (Versions max) = refl
 full_kind (Combine op columns encoding deletes) = refl
+full_kind WholeRow = refl
+full_kind (Intersecting terms without) = refl
 
 -- of major compactions of some files, these are the stages without the combiners of columns with deletes
 partial_is : (specs : List IterSpec) → stages_of (filter (runs_in MajcPart) specs) ≡ partial_stages (stages_of (filter (λ s. s.scopes.majc) specs))
@@ -70,15 +72,16 @@ usage_made Scan specs list = all_scanned specs (live list)
 usage_made Minc specs list = filtered_made Minc specs (mark list)
 usage_made MajcPart specs list = filtered_made MajcPart specs (mark list) ∙ ap (λ ss. stages ss (mark list)) (partial_is specs)
 usage_made MajcFull specs list = filtered_made MajcFull specs (live list)
+usage_made Pack specs list = filtered_made Pack specs (live list)
 
--- a stack is steady where no iterator that runs adds arrays
+-- a stack is steady where no iterator that runs takes memory
 pub usage_keeps_steady : (usage : Usage) (specs : List IterSpec) (leaf : Bool) → steady_by_all usage specs leaf ≡ usage_steady specs usage leaf
 unfolding steady_by_all usage_steady
 usage_keeps_steady usage [] leaf = end leaf
   where
     end : (leaf : Bool) → leaf ≡ (leaf && true)
     end leaf = grind arith
-usage_keeps_steady usage (s ∷ ss) leaf = usage_keeps_steady usage ss (cond (runs_in usage s) (cond (is_array_sum s.kind) false leaf) leaf) ∙ go (runs_in usage s) (is_array_sum s.kind) (list_any (λ t. runs_in usage t && is_array_sum t.kind) ss) leaf
+usage_keeps_steady usage (s ∷ ss) leaf = usage_keeps_steady usage ss (cond (runs_in usage s) (cond (takes_memory s.kind) false leaf) leaf) ∙ go (runs_in usage s) (takes_memory s.kind) (list_any (λ t. runs_in usage t && takes_memory t.kind) ss) leaf
   where
     go : (a b c leaf : Bool) → (cond a (cond b false leaf) leaf && not c) ≡ (leaf && not ((a && b) || c))
     go true true c true = refl

@@ -1,5 +1,6 @@
 -- What a configuration reads, the iterators of each usage take.
-use Rattle.std.proofs.Common.{◌≡◌, Bool, true, false, not, ◌&&◌, ◌||◌, cond, List, [], ◌∷◌, refl, sym, ◌∙◌}
+use Rattle.std.proofs.Common.{◌≡◌, Bool, true, false, not, ◌&&◌, ◌||◌, cond, List, [], ◌∷◌, refl, sym, ◌∙◌, subst, arith}
+use Rattle.std.proofs.lemmas.List.Elements.{recursion_from_All}
 use Rattle.std.specs.List.{AllByRecursion, IsDistinct}
 use Rattle.tablet_model.specs.Cell.{Cell}
 use Rattle.tablet_model.specs.Kept.{kept}
@@ -9,12 +10,14 @@ use Rattle.tablet_model.specs.Filters.{filtered}
 use Rattle.tablet_model.specs.Combines.{combined, leads, rewritten, joined_value}
 use Rattle.tablet_model.specs.Reductions.{Reduction}
 use Rattle.tablet_model.specs.Reading.{IsReadBy, AreUnmarkedRead, AreInFront}
-use Rattle.tablet_model.specs.Stages.{Stage, by_column, by_cell, combine, stage}
+use Rattle.tablet_model.specs.Stages.{Stage, by_column, by_cell, combine, intersect, rows, stage}
 use Rattle.tablet_model.proofs.Sums.{all_filter}
+use Rattle.tablet_model.proofs.Combines.{NoMarkers}
 use Rattle.tablet_model.proofs.Risings.{all_kept}
-use Rattle.stage_laws.proofs.Kept.{all_map}
+use Rattle.tablet_model.proofs.Maps.{all_map}
 use Rattle.stage_laws.proofs.InFront.{AreInFront-mark, AreInFront-plain, AreInFront-stage}
 use Rattle.stage_laws.proofs.Marked.{live_plain}
+use Rattle.stage_laws.proofs.Parts.{stage_plain}
 use Rattle.cell_key.specs.Listed.{is_listed, column_listed, listed_of_columns}
 use Rattle.cell_key.specs.declared.column_name.ColumnName.{ColumnName}
 use Rattle.number_values.specs.Values.{reduction_of}
@@ -24,11 +27,12 @@ use Rattle.iter_config.specs.declared.iter_spec.Deletes.{Deletes}
 use Rattle.combiners.specs.Gathers.{AreRead, stands}
 use Rattle.iter_config.specs.Order.{IsConfig}
 use Rattle.iter_config.specs.Predicates.{is_of_column, keeps, filter_stage}
-use Rattle.iter_config.specs.Rules.{is_of_deletes, shares_column}
+use Rattle.iter_config.specs.Limits.{IsLimited}
+use Rattle.iter_config.specs.Rules.{combines_behind, is_combiner, is_full_combiner, is_of_deletes, is_scan_only, leaves_scans, shares_column}
 use Rattle.iter_config.specs.Stages.{stage_of, stages_of}
 use Rattle.iter_config.specs.declared.iter_spec.IterSpec.{IterSpec}
 use Rattle.iter_config.specs.declared.iter_spec.Kind.{Kind}
-use Rattle.iter_config.specs.declared.iter_spec.Kind.TheVariants.{Filter, Versions, Combine}
+use Rattle.iter_config.specs.declared.iter_spec.Kind.TheVariants.{Filter, Versions, Combine, WholeRow, Intersecting}
 use Rattle.iter_config.specs.declared.predicate.Predicate.{Predicate}
 use Rattle.iter_config.proofs.Following.{AreApart, stages_all}
 use Rattle.iter_config.proofs.Meeting.{apart_columns}
@@ -36,7 +40,7 @@ use Rattle.iter_stack.specs.Places.{bottom_cells, made_by, KindTakes}
 use Rattle.iter_stack.proofs.Steps.{AllTake}
 use Rattle.iter_stack.specs.Usages.{runs_in}
 use Rattle.iter_stack.specs.declared.usage.Usage.{Usage}
-use Rattle.iter_stack.specs.declared.usage.Usage.TheVariants.{Scan, Minc, MajcPart, MajcFull}
+use Rattle.iter_stack.specs.declared.usage.Usage.TheVariants.{Scan, Minc, MajcPart, MajcFull, Pack}
 
 -- an entry that is no marker is read by each of these
 abbrev IsUnmarkedRead : List Stage → Cell → Type 0
@@ -61,6 +65,8 @@ other_reads : (op : Op) (columns : List ColumnName) (encoding : Encoding) (delet
 unfolding column_listed
 other_reads op columns encoding deletes e h (Filter predicate negate) apart = filter_reads e predicate negate
 other_reads op columns encoding deletes e h (Versions max) apart = tt
+other_reads op columns encoding deletes e h WholeRow apart = tt
+other_reads op columns encoding deletes e h (Intersecting terms without) apart = tt
 other_reads op columns encoding deletes e h (Combine o others c d) apart =
     λ listed. absurd (let no : true ≡ false = sym listed ∙ apart_columns columns others e.key.family e.key.qualifier apart h in cc)
 
@@ -78,17 +84,32 @@ rewritten_read columns r ss read list e h = go e.key.deleted (is_listed columns 
     go false true k = λ put. read new k
     go false false k = h
 
+-- an iterator that is no combiner reads each value
+pub plain_reads : (e : Cell) (k : Kind) → is_combiner k ≡ false → IsReadBy e (stage_of k)
+plain_reads e (Filter predicate negate) h = filter_reads e predicate negate
+plain_reads e (Versions max) h = tt
+plain_reads e (Combine op columns encoding deletes) h = absurd (let k : true ≡ false = h in cc)
+plain_reads e WholeRow h = tt
+plain_reads e (Intersecting terms without) h = tt
+
+-- and so do all of them
+plain_read : (ss : List IterSpec) → AllByRecursion (λ t. is_combiner t.kind ≡ false) ss → (list : List Cell) → AreUnmarkedRead (stages_of ss) list
+plain_read ss h [] = tt
+plain_read ss h (e ∷ es) = ((λ put. stages_all (IsReadBy e) (λ t. is_combiner t.kind ≡ false) (λ t k. plain_reads e t.kind k) ss h), plain_read ss h es)
+
 -- a stage leaves its entries to be read by those behind it
-stage_read : (k : Kind) (ss : List IterSpec) → AllByRecursion (λ t. AreApart k t.kind) ss → (list : List Cell) → AreUnmarkedRead (stages_of ss) list
+stage_read : (k : Kind) (ss : List IterSpec) → AllByRecursion (λ t. AreApart k t.kind) ss → AllByRecursion (λ t. (is_scan_only k && is_combiner t.kind) ≡ false) ss → (list : List Cell) → AreUnmarkedRead (stages_of ss) list
     → AreUnmarkedRead (stages_of ss) (stage (stage_of k) list)
 unfolding stage filter_stage filtered versions combined
-stage_read (Filter predicate negate) ss apart list h = go (is_of_column predicate)
+stage_read (Filter predicate negate) ss apart behind list h = go (is_of_column predicate)
   where
     go : (b : Bool) → AreUnmarkedRead (stages_of ss) (stage (cond b (by_column (keeps predicate negate)) (by_cell (keeps predicate negate))) list)
     go true = all_filter (IsUnmarkedRead (stages_of ss)) (λ e. e.key.deleted || keeps predicate negate e) list h
     go false = all_filter (IsUnmarkedRead (stages_of ss)) (λ e. e.key.deleted || keeps predicate negate e) list h
-stage_read (Versions max) ss apart list h = all_kept (IsUnmarkedRead (stages_of ss)) (is_recent max) [] list h
-stage_read (Combine op columns encoding deletes) ss apart list h =
+stage_read WholeRow ss apart behind list h = plain_read ss behind (stage rows list)
+stage_read (Intersecting terms without) ss apart behind list h = plain_read ss behind (stage (intersect terms without) list)
+stage_read (Versions max) ss apart behind list h = all_kept (IsUnmarkedRead (stages_of ss)) (is_recent max) [] list h
+stage_read (Combine op columns encoding deletes) ss apart behind list h =
     let P : Cell → Type 0 = IsUnmarkedRead (stages_of ss) in
     let r : Reduction = reduction_of op encoding in
     let others : (e : Cell) → is_listed columns e.key.family e.key.qualifier ≡ true → AllByRecursion (IsReadBy e) (stages_of ss) =
@@ -110,25 +131,57 @@ values_read columns r full ss (e ∷ es) h = (one e h.0, values_read columns r f
     one : (e : Cell) → IsUnmarkedRead (combine (column_listed columns) r full ∷ ss) e → stands columns e ≡ false → r.reads e.value ≡ true
     one e h k = let (put, listed) = parts e.key.deleted (is_listed columns e.key.family e.key.qualifier) k in (h put).0 listed
 
-takes_kind : (k : Kind) (ss : List Stage) (list : List Cell) → AreUnmarkedRead (stage_of k ∷ ss) list → ((columns : List ColumnName) → AreInFront (column_listed columns) [] list) → KindTakes k list
-takes_kind (Filter predicate negate) ss list read front = tt
-takes_kind (Versions max) ss list read front = tt
-takes_kind (Combine op columns encoding deletes) ss list read front = (values_read columns (reduction_of op encoding) (is_of_deletes deletes) ss list read, front columns)
+takes_kind : (k : Kind) → IsLimited k → (ss : List Stage) (list : List Cell) → (is_scan_only k ≡ true → NoMarkers list) → AreUnmarkedRead (stage_of k ∷ ss) list → ((columns : List ColumnName) → AreInFront (column_listed columns) [] list) → KindTakes k list
+takes_kind (Filter predicate negate) limited ss list live read front = tt
+takes_kind (Versions max) limited ss list live read front = tt
+takes_kind WholeRow limited ss list live read front = live refl
+takes_kind (Intersecting terms without) limited ss list live read front = limited.0
+takes_kind (Combine op columns encoding deletes) limited ss list live read front = (values_read columns (reduction_of op encoding) (is_of_deletes deletes) ss list read, front columns)
+
+-- what is for scans alone runs in scans
+in_scan : (usage : Usage) (s : IterSpec) → leaves_scans s ≡ false → runs_in usage s ≡ true → is_scan_only s.kind ≡ true → usage ≡ Scan
+in_scan usage s stays runs only = go usage runs
+  where
+    never : (o m j : Bool) → (o && (m || j)) ≡ false → o ≡ true → (m || j) ≡ true → ⊥
+    never o m j h k r = grind arith
+
+    left : (m j : Bool) → m ≡ true → (m || j) ≡ true
+    left m j h = grind arith
+
+    right : (m j : Bool) → j ≡ true → (m || j) ≡ true
+    right m j h = grind arith
+
+    first : (j f : Bool) → (j && f) ≡ true → j ≡ true
+    first j f h = grind arith
+
+    go : (usage : Usage) → runs_in usage s ≡ true → usage ≡ Scan
+    go Scan r = refl
+    go Minc r = absurd (never (is_scan_only s.kind) s.scopes.minc s.scopes.majc stays only (left s.scopes.minc s.scopes.majc r))
+    go MajcPart r = absurd (never (is_scan_only s.kind) s.scopes.minc s.scopes.majc stays only (right s.scopes.minc s.scopes.majc (first s.scopes.majc (not (is_full_combiner s.kind)) r)))
+    go MajcFull r = absurd (never (is_scan_only s.kind) s.scopes.minc s.scopes.majc stays only (right s.scopes.minc s.scopes.majc r))
+    go Pack r = absurd (never (is_scan_only s.kind) s.scopes.minc s.scopes.majc stays only r)
 
 -- each iterator takes what those before it make
-takes_all : (usage : Usage) (specs : List IterSpec) → IsDistinct shares_column specs → (list : List Cell) → AreUnmarkedRead (stages_of specs) list
+takes_all : (usage : Usage) (specs : List IterSpec) → AllByRecursion (λ s. IsLimited s.kind) specs → AllByRecursion (λ s. leaves_scans s ≡ false) specs → IsDistinct combines_behind specs → IsDistinct shares_column specs
+    → (list : List Cell) → (usage ≡ Scan → NoMarkers list) → AreUnmarkedRead (stages_of specs) list
     → ((columns : List ColumnName) → AreInFront (column_listed columns) [] list) → AllTake usage specs list
 unfolding AllTake IsDistinct
-takes_all usage [] apart list read front = tt
-takes_all usage (s ∷ ss) apart list read front =
-    ((λ runs. takes_kind s.kind (stages_of ss) list read front), takes_all usage ss apart.1 (made_by usage s list) (read_on (runs_in usage s)) (front_on (runs_in usage s)))
+takes_all usage [] limits stays behind apart list plain read front = tt
+takes_all usage (s ∷ ss) limits stays behind apart list plain read front = (
+  (λ runs. takes_kind s.kind limits.0 (stages_of ss) list (λ only. plain (in_scan usage s stays.0 runs only)) read front),
+  takes_all usage ss limits.1 stays.1 behind.1 apart.1 (made_by usage s list) (plain_on (runs_in usage s)) (read_on (runs_in usage s)) (front_on (runs_in usage s)),
+)
   where
     later : AreUnmarkedRead (stages_of ss) list
     later = later_read (stage_of s.kind) (stages_of ss) list read
 
     read_on : (b : Bool) → AreUnmarkedRead (stages_of ss) (cond b (stage (stage_of s.kind) list) list)
-    read_on true = stage_read s.kind ss apart.0 list later
+    read_on true = stage_read s.kind ss apart.0 behind.0 list later
     read_on false = later
+
+    plain_on : (b : Bool) → usage ≡ Scan → NoMarkers (cond b (stage (stage_of s.kind) list) list)
+    plain_on true scan = stage_plain (stage_of s.kind) list (plain scan)
+    plain_on false scan = plain scan
 
     front_on : (b : Bool) (columns : List ColumnName) → AreInFront (column_listed columns) [] (cond b (stage (stage_of s.kind) list) list)
     front_on true columns = AreInFront-stage (column_listed columns) (listed_of_columns columns) (stage_of s.kind) list (front columns)
@@ -147,6 +200,7 @@ bottom_read Scan ss list h = live_read ss list h
 bottom_read Minc ss list h = mark_read ss list h
 bottom_read MajcPart ss list h = mark_read ss list h
 bottom_read MajcFull ss list h = live_read ss list h
+bottom_read Pack ss list h = live_read ss list h
 
 live_front : (list : List Cell) (listed : Cell → Bool) → AreInFront listed [] (live list)
 live_front list listed = AreInFront-plain listed [] (live list) (λ e. refl) (live_plain list)
@@ -156,7 +210,11 @@ bottom_front Scan list listed = live_front list listed
 bottom_front Minc list listed = AreInFront-mark listed list
 bottom_front MajcPart list listed = AreInFront-mark listed list
 bottom_front MajcFull list listed = live_front list listed
+bottom_front Pack list listed = live_front list listed
+
+bottom_plain : (usage : Usage) (list : List Cell) → usage ≡ Scan → NoMarkers (bottom_cells usage list)
+bottom_plain usage list scan = subst (λ u. NoMarkers (bottom_cells u list)) (sym scan) (live_plain list)
 
 pub all_taken : (usage : Usage) (specs : List IterSpec) → IsConfig specs → (list : List Cell) → AreUnmarkedRead (stages_of specs) list → AllTake usage specs (bottom_cells usage list)
 all_taken usage specs config list read =
-    takes_all usage specs config.apart (bottom_cells usage list) (bottom_read usage (stages_of specs) list read) (λ columns. bottom_front usage list (column_listed columns))
+    takes_all usage specs (recursion_from_All (λ s. IsLimited s.kind) specs config.limits) (recursion_from_All (λ s. leaves_scans s ≡ false) specs config.in_scans) config.uncombined config.apart (bottom_cells usage list) (λ scan. bottom_plain usage list scan) (bottom_read usage (stages_of specs) list read) (λ columns. bottom_front usage list (column_listed columns))

@@ -9,6 +9,12 @@ use Rattle.iter_stack.specs.declared.level.Level.{Level}
 use Rattle.iter_stack.specs.declared.four.Four.{Four}
 use Rattle.iter_stack.specs.declared.four.Four.TheVariants.{Bare, Levels}
 
+-- what is left of levels that stand one over another
+module _ {S : Type 0} where
+  -- of two
+  abbrev two_rest : (S → List Cell) → (S → List Cell) → Level (Level S) → List Cell
+  two_rest cells rest = level_rest (level_cells cells) (level_rest cells rest)
+
 module _ {S : Type 0} where
   -- what the fourth makes of what the third makes, and so on
   unfoldable pub four_cells : (S → List Cell) → Four S → List Cell
@@ -16,9 +22,9 @@ module _ {S : Type 0} where
   four_cells cells (Levels l) = level_cells (level_cells (level_cells (level_cells cells))) l
 
   -- what the fourth has left
-  unfoldable pub four_rest : (S → List Cell) → Four S → List Cell
-  four_rest rest (Bare s) = rest s
-  four_rest rest (Levels l) = level_rest (level_rest (level_rest (level_rest rest))) l
+  unfoldable pub four_rest : (S → List Cell) → (S → List Cell) → Four S → List Cell
+  four_rest cells rest (Bare s) = rest s
+  four_rest cells rest (Levels l) = two_rest (level_cells (level_cells cells)) (two_rest cells rest) l
 
   -- they are steady where the source and all four are
   unfoldable pub four_steady : (S → Bool) → Four S → Bool
@@ -48,10 +54,10 @@ module _ {S : Type 0} where
 module _ {S : Type 0} where
   -- of two
   abbrev two_valid : (S → List Cell) → (S → List Cell) → (S → Type 0) → Level (Level S) → Type 0
-  two_valid cells rest valid = level_valid (level_cells cells) (level_rest rest) (level_valid cells rest valid)
+  two_valid cells rest valid = level_valid (level_cells cells) (level_rest cells rest) (level_valid cells rest valid)
 
 module _ {S : Type 0} where
   -- of four
   unfoldable pub four_valid : (S → List Cell) → (S → List Cell) → (S → Type 0) → Four S → Type 0
   four_valid cells rest valid (Bare s) = valid s
-  four_valid cells rest valid (Levels l) = two_valid (level_cells (level_cells cells)) (level_rest (level_rest rest)) (two_valid cells rest valid) l
+  four_valid cells rest valid (Levels l) = two_valid (level_cells (level_cells cells)) (two_rest cells rest) (two_valid cells rest valid) l

@@ -1,5 +1,4 @@
 pub mod Usages
-pub mod Firsts
 pub mod Fours
 pub mod DropStages
 pub mod LevelStages

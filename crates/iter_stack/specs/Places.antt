@@ -1,5 +1,5 @@
 -- What the iterators of a configuration make of a list, one after another. All of this is this project's own.
-use Rattle.std.specs.Prelude.{◌≡◌, ℕ, ◌+◌, Bool, true, false, cond, List, Option, Some, None, slice_get, ⊤}
+use Rattle.std.specs.Prelude.{◌≡◌, ◌≤◌, ℕ, ◌+◌, Bool, true, false, cond, List, length, Option, Some, None, slice_get, ⊤}
 use Rattle.tablet_model.specs.Cell.{Cell}
 use Rattle.tablet_model.specs.Markers.{live, mark}
 use Rattle.tablet_model.specs.Stages.{stage}
@@ -7,11 +7,12 @@ use Rattle.number_values.specs.Values.{reduction_of}
 use Rattle.iter_config.specs.Stages.{stage_of}
 use Rattle.iter_config.specs.declared.iter_spec.IterSpec.{IterSpec}
 use Rattle.iter_config.specs.declared.iter_spec.Kind.{Kind}
-use Rattle.iter_config.specs.declared.iter_spec.Kind.TheVariants.{Filter, Versions, Combine}
+use Rattle.iter_config.specs.declared.iter_spec.Kind.TheVariants.{Filter, Versions, Combine, WholeRow, Intersecting}
+use Rattle.whole_row.specs.RowLists.{AreLive}
 use Rattle.iter_stack.specs.LevelStages.{AreCombinable}
-use Rattle.iter_stack.specs.Usages.{runs_in, is_array_sum}
+use Rattle.iter_stack.specs.Usages.{runs_in, takes_memory}
 use Rattle.iter_stack.specs.declared.usage.Usage.{Usage}
-use Rattle.iter_stack.specs.declared.usage.Usage.TheVariants.{Scan, Minc, MajcPart, MajcFull}
+use Rattle.iter_stack.specs.declared.usage.Usage.TheVariants.{Scan, Minc, MajcPart, MajcFull, Pack}
 
 -- what deletes leave of a leaf's entries
 abbrev pub bottom_cells : Usage → List Cell → List Cell
@@ -19,16 +20,27 @@ bottom_cells Scan list = live list
 bottom_cells Minc list = mark list
 bottom_cells MajcPart list = mark list
 bottom_cells MajcFull list = live list
+bottom_cells Pack list = live list
 
 -- what a kind of iterator asks of its list
 abbrev pub KindTakes : Kind → List Cell → Type 0
 KindTakes (Filter predicate negate) list = ⊤
 KindTakes (Versions max) list = ⊤
 KindTakes (Combine op columns encoding deletes) list = AreCombinable columns (reduction_of op encoding) list
+KindTakes WholeRow list = AreLive list
+KindTakes (Intersecting terms without) list = 1 ≤ length terms
+
+-- how many sources it has: an intersection one for each term, others any
+abbrev pub KindCounts : Kind → ℕ → Type 0
+KindCounts (Filter predicate negate) count = ⊤
+KindCounts (Versions max) count = ⊤
+KindCounts (Combine op columns encoding deletes) count = ⊤
+KindCounts WholeRow count = ⊤
+KindCounts (Intersecting terms without) count = count ≡ length terms + length without
 
 -- whether it is steady, where `source` says whether its source is
 abbrev pub kind_steady : Kind → Bool → Bool
-kind_steady kind source = cond (is_array_sum kind) false source
+kind_steady kind source = cond (takes_memory kind) false source
 
 -- what an iterator makes of a list, if it runs
 abbrev pub made_by : Usage → IterSpec → List Cell → List Cell
@@ -41,6 +53,10 @@ steady_by usage s source = cond (runs_in usage s) (kind_steady s.kind source) so
 -- it takes a list, if it runs
 abbrev pub TakesBy : Usage → IterSpec → List Cell → Type 0
 TakesBy usage s list = runs_in usage s ≡ true → KindTakes s.kind list
+
+-- how many sources it has, if it runs
+abbrev pub CountsBy : Usage → IterSpec → ℕ → Type 0
+CountsBy usage s count = runs_in usage s ≡ true → KindCounts s.kind count
 
 -- what the iterator of a place makes, if there is one
 abbrev pub made_at : Usage → Option IterSpec → List Cell → List Cell
@@ -56,6 +72,11 @@ steady_at usage (Some s) source = steady_by usage s source
 abbrev pub TakesAt : Usage → Option IterSpec → List Cell → Type 0
 TakesAt usage None list = ⊤
 TakesAt usage (Some s) list = TakesBy usage s list
+
+-- how many sources it has
+abbrev pub CountsAt : Usage → Option IterSpec → ℕ → Type 0
+CountsAt usage None count = ⊤
+CountsAt usage (Some s) count = CountsBy usage s count
 
 -- what the iterators at a place and the three behind it make, one after another
 abbrev pub four_made : Usage → List IterSpec → ℕ → List Cell → List Cell

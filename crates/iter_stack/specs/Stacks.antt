@@ -15,8 +15,13 @@ module _ {S : Type 0} where
   stack_cells cells s = four_cells (four_cells (four_cells (four_cells (level_cells cells)))) s.levels
 
   -- what the uppermost has left
-  unfoldable pub stack_rest : (S → List Cell) → Stack S → List Cell
-  stack_rest rest s = four_rest (four_rest (four_rest (four_rest (level_rest rest)))) s.levels
+  unfoldable pub stack_rest : (S → List Cell) → (S → List Cell) → Stack S → List Cell
+  stack_rest cells rest s =
+      four_rest (four_cells (four_cells (four_cells (level_cells cells))))
+      (four_rest (four_cells (four_cells (level_cells cells)))
+      (four_rest (four_cells (level_cells cells))
+      (four_rest (level_cells cells)
+      (level_rest cells rest)))) s.levels
 
   -- it is steady where its leaf and all levels are
   unfoldable pub stack_steady : (S → Bool) → Stack S → Bool
@@ -25,11 +30,14 @@ module _ {S : Type 0} where
   -- the parts of leaf and levels fit together
   unfoldable pub stack_valid : (S → List Cell) → (S → List Cell) → (S → Type 0) → Stack S → Type 0
   stack_valid cells rest valid s =
-      four_valid (four_cells (four_cells (four_cells (level_cells cells)))) (four_rest (four_rest (four_rest (level_rest rest))))
-      (four_valid (four_cells (four_cells (level_cells cells))) (four_rest (four_rest (level_rest rest)))
-      (four_valid (four_cells (level_cells cells)) (four_rest (level_rest rest))
-      (four_valid (level_cells cells) (level_rest rest)
-      (level_valid cells rest valid)))) s.levels
+      let bottom = level_cells cells in
+      let one = four_cells bottom in
+      let two = four_cells one in
+      let rest_bottom = level_rest cells rest in
+      let rest_one = four_rest bottom rest_bottom in
+      let rest_two = four_rest one rest_one in
+      four_valid (four_cells two) (four_rest two rest_two)
+      (four_valid two rest_two (four_valid one rest_one (four_valid bottom rest_bottom (level_valid cells rest valid)))) s.levels
 
   -- its entries are in order where the leaf's are
   pub stack_sorted : (cells : S → List Cell) → ((s : S) → Ascends above (cells s)) → (s : Stack S) → Ascends above (stack_cells cells s)

@@ -28,7 +28,7 @@ pub fn build<S: SortedSource>(
     ensures { IfOk result (λ it. IsCopy
         (usage_cells config.now usage (S.cells leaf))
         (usage_steady config.now usage (S.steady leaf))
-        (stack_cells S.cells it) (stack_rest S.rest it) (stack_steady S.steady it)
+        (stack_cells S.cells it) (stack_rest S.cells S.rest it) (stack_steady S.steady it)
         (stack_valid S.cells S.rest S.valid it)) }
 {
     // There is a level for each iterator.

@@ -19,7 +19,7 @@ impl<S: SortedSource> SortedSource for Four<S> {
 
     ghost cells = { four_cells S.cells };
 
-    ghost rest = { four_rest S.rest };
+    ghost rest = { four_rest S.cells S.rest };
 
     ghost steady = { four_steady S.steady };
 

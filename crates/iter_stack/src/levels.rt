@@ -1,17 +1,18 @@
 //! Levels for the iterators of a configuration.
-ghost use Rattle.std.specs.Prelude.{◌≡◌, ◌≤◌, [], IfOk, slice_get};
+ghost use Rattle.std.specs.Prelude.{◌≡◌, ◌≤◌, ◌+◌, [], IfOk, slice_get};
+ghost use Rattle.iter_config.specs.Limits.{IsLimited};
 ghost use Rattle.iter_contract.specs.Copies.{IsCopy};
 ghost use Rattle.iter_stack.specs.LevelStages.{IsFresh};
 ghost use Rattle.iter_stack.specs.Levels.{level_cells, level_rest, level_steady, level_valid};
 ghost use Rattle.iter_stack.specs.Fours.{four_cells, four_rest, four_steady, four_valid};
-ghost use Rattle.iter_stack.specs.Places.{bottom_cells, made_at, steady_at, TakesAt, four_made, steady_by_four, FourTake};
+ghost use Rattle.iter_stack.specs.Places.{bottom_cells, made_at, steady_at, CountsAt, KindCounts, TakesAt, four_made, steady_by_four, FourTake};
 
 use crate::four::Four;
 use crate::level::Level;
 use crate::stage::LevelStage;
 use crate::usage::Usage;
 use cell_key::NoMemory;
-use iter_config::Config;
+use iter_config::{Config, Kind};
 use iter_contract::SortedSource;
 use std::alloc::Global;
 
@@ -24,17 +25,17 @@ pub(crate) fn bottom<S: SortedSource>(
 ) -> Result<Level<S>, NoMemory>
     requires { S.valid leaf }
     ensures { IfOk result (λ it. IsCopy (bottom_cells usage (S.cells leaf)) (S.steady leaf)
-        (level_cells S.cells it) (level_rest S.rest it) (level_steady S.steady it)
+        (level_cells S.cells it) (level_rest S.cells S.rest it) (level_steady S.steady it)
         (level_valid S.cells S.rest S.valid it)) }
 {
     let stage = LevelStage::bottom(alloc, usage)?;
-    Level::over(alloc, leaf, stage)
+    Level::over(alloc, leaf, 0, stage)
 }
 
 /// The stage of the iterator at place `i`, if there is one and it runs.
 fn stage_at(alloc: Global, config: &Config, usage: Usage, i: usize) -> Result<LevelStage, NoMemory>
     ensures { IfOk result (IsFresh (made_at usage (slice_get config.now i)) (steady_at usage (slice_get config.now i))
-        (TakesAt usage (slice_get config.now i))) }
+        (TakesAt usage (slice_get config.now i)) (CountsAt usage (slice_get config.now i))) }
 {
     if i < config.count() {
         let spec = config.iterator(i);
@@ -43,6 +44,30 @@ fn stage_at(alloc: Global, config: &Config, usage: Usage, i: usize) -> Result<Le
         }
     }
     Ok(LevelStage::Same)
+}
+
+/// How many further sources the kind has: an intersection one for each term behind the first.
+fn copies_of(kind: &Kind) -> usize
+    requires { IsLimited kind.now }
+    ensures { KindCounts kind.now (1 + result) }
+{
+    match kind {
+        Kind::Intersecting { terms, without } => terms.len() - 1 + without.len(),
+        Kind::Filter { .. } | Kind::Versions { .. } | Kind::Combine { .. } | Kind::WholeRow => 0,
+    }
+}
+
+/// How many further sources the iterator at place `i` has, if there is one and it runs.
+fn copies_at(config: &Config, usage: Usage, i: usize) -> usize
+    ensures { CountsAt usage (slice_get config.now i) (1 + result) }
+{
+    if i < config.count() {
+        let spec = config.iterator(i);
+        if usage.runs(spec) {
+            return copies_of(&spec.kind);
+        }
+    }
+    0
 }
 
 /// The iterator at place `i` over a source that was not sought.
@@ -60,11 +85,12 @@ fn level_at<S: SortedSource>(
     ensures { IfOk result (λ it. IsCopy
         (made_at usage (slice_get config.now i) (S.cells source))
         (steady_at usage (slice_get config.now i) (S.steady source))
-        (level_cells S.cells it) (level_rest S.rest it) (level_steady S.steady it)
+        (level_cells S.cells it) (level_rest S.cells S.rest it) (level_steady S.steady it)
         (level_valid S.cells S.rest S.valid it)) }
 {
     let stage = stage_at(alloc, config, usage, i)?;
-    Level::over(alloc, source, stage)
+    let copies = copies_at(config, usage, i);
+    Level::over(alloc, source, copies, stage)
 }
 
 /// The iterator at place `i` and the three behind it, as many as there are, over a source that was not sought.
@@ -83,7 +109,7 @@ pub(crate) fn four_over<S: SortedSource>(
     ensures { IfOk result (λ it. IsCopy
         (four_made usage config.now i (S.cells source))
         (steady_by_four usage config.now i (S.steady source))
-        (four_cells S.cells it) (four_rest S.rest it) (four_steady S.steady it)
+        (four_cells S.cells it) (four_rest S.cells S.rest it) (four_steady S.steady it)
         (four_valid S.cells S.rest S.valid it)) }
 {
     if config.count() <= i {

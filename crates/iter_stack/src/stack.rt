@@ -9,7 +9,7 @@ use std::alloc::Global;
 
 /// The iterators of a configuration over a leaf, one over another. The lowest level drops what deletes hide, and up to
 /// sixteen stand over it; one whose iterator does not run shows what is under it as it is. It is steady where its leaf is,
-/// and no iterator that runs adds arrays.
+/// and no iterator that runs adds arrays, or makes entries of rows or documents.
 #[derive(Drop)]
 pub struct Stack<S> {
     pub(crate) levels: Four<Four<Four<Four<Level<S>>>>>,
@@ -20,7 +20,7 @@ impl<S: SortedSource> SortedSource for Stack<S> {
 
     ghost cells = { stack_cells S.cells };
 
-    ghost rest = { stack_rest S.rest };
+    ghost rest = { stack_rest S.cells S.rest };
 
     ghost steady = { stack_steady S.steady };
 

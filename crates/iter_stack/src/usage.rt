@@ -15,6 +15,8 @@ pub enum Usage {
     MajcPart,
     /// A major compaction of all of them, which alone drops markers.
     MajcFull,
+    /// An image of a whole history: live entries, and all iterators that run in compactions.
+    Pack,
 }
 
 impl Usage {
@@ -30,6 +32,7 @@ impl Usage {
             Usage::Minc => spec.scopes.minc,
             Usage::MajcPart => spec.scopes.majc && !combines_with_deletes(&spec.kind),
             Usage::MajcFull => spec.scopes.majc,
+            Usage::Pack => spec.scopes.minc || spec.scopes.majc,
         }
     }
 }
@@ -40,6 +43,7 @@ fn combines_with_deletes(kind: &Kind) -> bool
 {
     match kind {
         Kind::Combine { deletes, .. } => *deletes == Deletes::Full,
-        Kind::Filter { .. } | Kind::Versions { .. } => false,
+        Kind::Filter { .. } | Kind::Versions { .. } | Kind::WholeRow | Kind::Intersecting { .. } =>
+            false,
     }
 }

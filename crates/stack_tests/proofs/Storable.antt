@@ -16,7 +16,7 @@ use Rattle.iter_config.specs.RulesOf.{rules_of, scans_alone}
 use Rattle.iter_config.specs.Stages.{stage_of, stages_of}
 use Rattle.iter_config.specs.declared.iter_spec.IterSpec.{IterSpec}
 use Rattle.iter_config.specs.declared.iter_spec.Kind.{Kind}
-use Rattle.iter_config.specs.declared.iter_spec.Kind.TheVariants.{Filter, Versions, Combine}
+use Rattle.iter_config.specs.declared.iter_spec.Kind.TheVariants.{Filter, Versions, Combine, WholeRow, Intersecting}
 use Rattle.iter_stack.proofs.Taken.{filter_reads}
 
 both : (a b : Bool) → (a && b) ≡ true → (a ≡ true) × (b ≡ true)
@@ -27,6 +27,8 @@ one_reads : (e : Cell) (k : Kind) → kind_reads e.key.family e.key.qualifier e.
 unfolding column_listed
 one_reads e (Filter predicate negate) h = filter_reads e predicate negate
 one_reads e (Versions max) h = tt
+one_reads e WholeRow h = tt
+one_reads e (Intersecting terms without) h = tt
 one_reads e (Combine op columns encoding deletes) h = λ listed. sym (ap (λ l. not l || (reduction_of op encoding).reads e.value) listed) ∙ h
 
 all_read : (e : Cell) (specs : List IterSpec) → reads_value specs e.key.family e.key.qualifier e.value ≡ true → AllByRecursion (IsReadBy e) (stages_of specs)

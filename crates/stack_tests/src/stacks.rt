@@ -1,10 +1,12 @@
 //! Stacks by usage.
 ghost use Rattle.std.specs.Prelude.{IfOk};
 ghost use Rattle.tablet_model.specs.Order.{above};
+ghost use Rattle.tablet_model.specs.Reading.{AreUnmarkedRead};
 ghost use Rattle.tablet_model.specs.Rules.{AreStorable};
 ghost use Rattle.tablet_model.specs.Sorted.{Ascends};
 ghost use Rattle.iter_contract.specs.VecRest.{vec_cells};
 ghost use Rattle.iter_config.specs.RulesOf.{rules_of};
+ghost use Rattle.iter_config.specs.Stages.{stages_of};
 
 use crate::fixtures::{Cell, are_storable, config, copy_has};
 use cell_key::{Entries, Entry, EntryRef, Key, KeyError, KeyRef, NoMemory};
@@ -72,8 +74,36 @@ fn makes(
     requires { AreStorable (rules_of config.now) (vec_cells leaf.now) }
 {
     let leaf = leaf.deep_copy(alloc)?;
+    stack_has(alloc, config, usage, leaf, cells)
+}
+
+/// Whether a usage makes these entries of a leaf. It is generic, since the proof of a call of a whole stack grows with what its
+/// types name.
+fn stack_has<S: SortedSource>(
+    alloc: Global,
+    config: &Config,
+    usage: Usage,
+    leaf: S,
+    cells: &[Cell],
+) -> Result<bool, NoMemory>
+    requires valid { S.valid leaf }
+    requires read { AreUnmarkedRead (stages_of config.now) (S.cells leaf) }
+{
     let stack = build(alloc, config, usage, leaf)?;
-    copy_has(alloc, &stack, cells)
+    source_has(alloc, stack, cells)
+}
+
+/// Whether a copy of a source has these entries and no others.
+fn source_has<S: SortedSource>(alloc: Global, source: S, cells: &[Cell]) -> Result<bool, NoMemory>
+    requires { S.valid source }
+{
+    copy_has(alloc, &source, cells)
+}
+
+/// Whether a scan of the leaf makes these entries.
+pub(crate) fn scans(alloc: Global, config: &Config, cells: &[Cell]) -> Result<bool, Fail> {
+    let leaf = leaf(alloc, config)?;
+    Ok(makes(alloc, config, Usage::Scan, &leaf, cells)?)
 }
 
 const SCANNED: &[Cell] = &[

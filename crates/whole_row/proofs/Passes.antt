@@ -3,40 +3,24 @@ use Rattle.std.proofs.Common.{◌≡◌, ◌||◌, not, ℕ, ◌+◌, Bool, true
 use Rattle.std.specs.List.{AllByRecursion, filter, list_any}
 use Rattle.std.specs.Ordering.{is_gt, is_eq, ordering_reverse}
 use Rattle.std.specs.declared.cmp.Ordering.{Ordering}
-use Rattle.std.specs.declared.cmp.Ordering.TheVariants.{Equal}
-use Rattle.std.proofs.lemmas.Cmp.{eq_by_cmp_equiv, nat_list_cmp_total}
+use Rattle.std.proofs.lemmas.Cmp.{nat_list_cmp_total}
 use Rattle.std.proofs.lemmas.List.{append-nil}
 use Rattle.std.proofs.lemmas.List.Concat.{flat_map-append, flat_map-cons}
 use Rattle.std.proofs.lemmas.List.Folds.{list_any-append}
-use Rattle.std.proofs.lemmas.Map.Lookups.{exact_bytes}
 use Rattle.tablet_model.specs.Cell.{Cell}
 use Rattle.tablet_model.specs.Order.{above, bytes_cmp}
 use Rattle.tablet_model.specs.Sorted.{Ascends}
 use Rattle.tablet_model.specs.Kept.{kept}
-use Rattle.tablet_model.specs.Rows.{same_bytes, same_row, leads_row, row_entry, whole_row}
+use Rattle.tablet_model.specs.Rows.{same_bytes, same_row, leads_row, row_entry, whole_row, last_time}
 use Rattle.tablet_model.proofs.CutLemmas.{key_le, row_le}
 use Rattle.tablet_model.proofs.Risings.{all_kept}
 use Rattle.tablet_model.proofs.Sums.{all_weaker}
-use Rattle.whole_row.specs.RowText.{entry_bytes, entries_bytes, row_text, last_time, whole_rows}
+use Rattle.tablet_model.proofs.Texts.{equal_texts, same_texts, same_texts_turned}
+use Rattle.tablet_model.specs.RowText.{entry_bytes, entries_bytes, row_text, whole_rows}
 use Rattle.whole_row.specs.Bodies.{Body, with_entry, no_entries, body_text}
 use Rattle.whole_row.specs.RowPasses.{row_key, rows_from}
 
 -- ---- rows
-
-tie : (o : Ordering) → is_eq o ≡ true → o ≡ Equal
-tie o k = grind arith
-
-pub equal_rows : (a b : List ℕ) → same_bytes a b ≡ true → a ≡ b
-unfolding same_bytes
-equal_rows a b h = exact_bytes a b (tie (bytes_cmp a b) h)
-
-pub same_itself : (a : List ℕ) → same_bytes a a ≡ true
-unfolding same_bytes
-same_itself a = (eq_by_cmp_equiv nat_list_cmp_total).refl a
-
-pub same_turned : (a b : List ℕ) → same_bytes a b ≡ same_bytes b a
-unfolding same_bytes
-same_turned a b = (eq_by_cmp_equiv nat_list_cmp_total).symm a b
 
 -- all entries, or none, are of the row of e
 abbrev pub InRow : Cell → List Cell → Type 0
@@ -48,11 +32,11 @@ NoneInRow e list = AllByRecursion (λ y. same_row e y ≡ false) list
 -- what is in the row of an entry of a row is in that row
 in_row : (e y z : Cell) → same_row e y ≡ true → same_row y z ≡ same_row e z
 unfolding same_row
-in_row e y z h = ap (λ row. same_bytes row z.key.row) (sym (equal_rows e.key.row y.key.row h))
+in_row e y z h = ap (λ row. same_bytes row z.key.row) (sym (equal_texts e.key.row y.key.row h))
 
 turned : (e y : Cell) → same_row e y ≡ same_row y e
 unfolding same_row
-turned e y = same_turned e.key.row y.key.row
+turned e y = same_texts_turned e.key.row y.key.row
 
 -- what stands between two entries of a row is of it
 row_between : (e y z : Cell) → above e y ≡ false → above y z ≡ false → same_row e z ≡ true → same_row e y ≡ true
@@ -60,7 +44,7 @@ unfolding same_row same_bytes
 row_between e y z h k s = go (bytes_cmp e.key.row y.key.row) refl
   where
     below : is_gt (bytes_cmp y.key.row e.key.row) ≡ false
-    below = ap (λ row. is_gt (bytes_cmp y.key.row row)) (equal_rows e.key.row z.key.row s) ∙ row_le y.key z.key (key_le y z k)
+    below = ap (λ row. is_gt (bytes_cmp y.key.row row)) (equal_texts e.key.row z.key.row s) ∙ row_le y.key z.key (key_le y z k)
 
     upper : is_gt (bytes_cmp e.key.row y.key.row) ≡ false
     upper = row_le e.key y.key (key_le e y h)
@@ -119,7 +103,7 @@ kept_others e ys before (y ∷ list) h n = rw (leads_others e y ys before h n.0,
 
 itself : (e : Cell) → same_row e e ≡ true
 unfolding same_row
-itself e = same_itself e.key.row
+itself e = same_texts e.key.row e.key.row refl
 
 kept_row : (e : Cell) (us list : List Cell) → InRow e us → NoneInRow e list → kept leads_row [] ((e ∷ us) ++ list) ≡ e ∷ kept leads_row [] list
 unfolding kept leads_row

@@ -2,8 +2,6 @@
 use Rattle.std.proofs.Common.{◌≡◌, Bool, true, false, not, ◌&&◌, cond, List, [], ◌∷◌, map, Option, None, refl, sym, ◌∙◌, ap, arith}
 use Rattle.std.specs.List.{AllByRecursion, filter}
 use Rattle.std.specs.Ordering.{is_gt, is_ge}
-use Rattle.std.specs.declared.cmp.Ordering.{Ordering}
-use Rattle.std.specs.declared.cmp.Ordering.TheVariants.{Less, Equal, Greater}
 use Rattle.std.proofs.lemmas.Cmp.{nat_list_cmp_total}
 use Rattle.std.proofs.lemmas.Map.Views.{any-filter_same}
 use Rattle.tablet_model.specs.Cell.{Cell, CellKey}
@@ -11,17 +9,19 @@ use Rattle.tablet_model.specs.Order.{above, key_cmp, bytes_cmp}
 use Rattle.tablet_model.specs.Sorted.{Ascends, from_first}
 use Rattle.tablet_model.specs.Kept.{kept}
 use Rattle.tablet_model.specs.Cuts.{Cut, Everything, Before, Behind, BeforeRow, BehindRow, is_behind, is_before, within, Span}
-use Rattle.tablet_model.specs.Rows.{same_row, leads_row, row_entry, whole_row}
+use Rattle.tablet_model.specs.Rows.{same_row, leads_row, row_entry, whole_row, last_time}
 use Rattle.tablet_model.proofs.Orders.{above_exact, key_total}
 use Rattle.tablet_model.proofs.Sums.{all_weaker, Ascends-filter}
 use Rattle.tablet_model.proofs.CutLemmas.{before_down, key_le, behind-GoesUp, ge_back, row_le}
 use Rattle.tablet_model.proofs.Risings.{filter_map_within, filter_in}
+use Rattle.tablet_model.proofs.Bools.{false-of-not}
+use Rattle.tablet_model.proofs.Texts.{equal_texts, same_texts, ge-of-gt}
 use Rattle.tablet_model.proofs.Seeks.{from_first_is, filter_both, filter_same}
-use Rattle.whole_row.specs.RowText.{last_time, row_text, whole_rows}
+use Rattle.tablet_model.specs.RowText.{row_text, whole_rows}
 use Rattle.whole_row.specs.RowLaws.{Ascends-whole_rows}
 use Rattle.whole_row.specs.RowPasses.{Held, rows_from, up_to}
 use Rattle.whole_row.specs.RowStages.{row_cut}
-use Rattle.whole_row.proofs.Passes.{pass_is, equal_rows, same_itself}
+use Rattle.whole_row.proofs.Passes.{pass_is}
 
 -- ---- sets of whole rows
 
@@ -42,7 +42,7 @@ kept_rows q h before (e ∷ es) =
 
 row_entry_of : (q : Cell → Bool) → IsOfRows q → (list : List Cell) (e : Cell) → q (row_entry last_time row_text list e) ≡ q e
 unfolding row_entry same_row
-row_entry_of q h list e = h (row_entry last_time row_text list e) e (same_itself e.key.row)
+row_entry_of q h list e = h (row_entry last_time row_text list e) e (same_texts e.key.row e.key.row refl)
 
 row_entry_within : (q : Cell → Bool) → IsOfRows q → (list : List Cell) (e : Cell) → q e ≡ true → row_entry last_time row_text list e ≡ row_entry last_time row_text (filter q list) e
 unfolding row_entry
@@ -62,29 +62,20 @@ rows_within q h list =
 of_rows : (c : Cut) → IsOfRows (λ e. is_behind (row_cut c) e.key)
 unfolding same_row
 of_rows Everything a b h = refl
-of_rows (Before k) a b h = ap (λ row. is_ge (bytes_cmp row k.row)) (equal_rows a.key.row b.key.row h)
-of_rows (Behind k) a b h = ap (λ row. is_ge (bytes_cmp row k.row)) (equal_rows a.key.row b.key.row h)
-of_rows (BeforeRow r) a b h = ap (λ row. is_ge (bytes_cmp row r)) (equal_rows a.key.row b.key.row h)
-of_rows (BehindRow r) a b h = ap (λ row. is_gt (bytes_cmp row r)) (equal_rows a.key.row b.key.row h)
-
-gt_ge : (o : Ordering) → is_gt o ≡ true → is_ge o ≡ true
-gt_ge Less h = h
-gt_ge Equal h = refl
-gt_ge Greater h = refl
-
-turn : (b : Bool) → true ≡ not b → b ≡ false
-turn true h = h
-turn false h = refl
+of_rows (Before k) a b h = ap (λ row. is_ge (bytes_cmp row k.row)) (equal_texts a.key.row b.key.row h)
+of_rows (Behind k) a b h = ap (λ row. is_ge (bytes_cmp row k.row)) (equal_texts a.key.row b.key.row h)
+of_rows (BeforeRow r) a b h = ap (λ row. is_ge (bytes_cmp row r)) (equal_texts a.key.row b.key.row h)
+of_rows (BehindRow r) a b h = ap (λ row. is_gt (bytes_cmp row r)) (equal_texts a.key.row b.key.row h)
 
 row_ge : (k b : CellKey) → is_ge (key_cmp k b) ≡ true → is_ge (bytes_cmp k.row b.row) ≡ true
 row_ge k b h =
-    let low : is_gt (key_cmp b k) ≡ false = turn (is_gt (key_cmp b k)) (sym h ∙ ge_back key_total k b) in
+    let low : is_gt (key_cmp b k) ≡ false = false-of-not (is_gt (key_cmp b k)) (sym (ge_back key_total k b) ∙ h) in
     ge_back nat_list_cmp_total k.row b.row ∙ ap not (row_le b k low)
 
 row_first : (c : Cut) (k : CellKey) → is_behind c k ≡ true → is_behind (row_cut c) k ≡ true
 row_first Everything k h = refl
 row_first (Before b) k h = row_ge k b h
-row_first (Behind b) k h = row_ge k b (gt_ge (key_cmp k b) h)
+row_first (Behind b) k h = row_ge k b (ge-of-gt (key_cmp k b) h)
 row_first (BeforeRow r) k h = h
 row_first (BehindRow r) k h = h
 
@@ -108,17 +99,13 @@ up_to_is p down (x ∷ xs) up = go (p x) refl (up_to_is p down xs up.1)
     go true k i = ap (λ l. x ∷ l) i
     go false k i = sym (nothing xs (all_weaker (λ y. above x y ≡ false) (λ y. p y ≡ false) (λ y low. fails k y low (p y) refl) xs up.0))
 
--- the first of two tests may be left out, where the second needs it
-filter_twice : (p q : Cell → Bool) → ((x : Cell) → p x ≡ true → q x ≡ true) → (list : List Cell) → filter p (filter q list) ≡ filter p list
-filter_twice p q h list = filter_in p q h list
-
 -- a pass over whole rows, cut at both ends
 seek_rest : (s : Span) (cells : List Cell) → Ascends above cells
     → up_to (λ e. is_before s.end e.key) (from_first (λ e. is_behind s.start e.key) (rows_from None (within (record { start = row_cut s.start; end = Everything }) cells))) ≡ within s (whole_rows cells)
 seek_rest s cells up =
     ap (λ l. ends (begins (rows_from None l))) (filter_same (λ e. wide e && true) wide cells (all_true cells))
     ∙ ap (λ l. ends (begins l)) (pass_is (filter wide cells) (Ascends-filter above above_exact wide cells up) ∙ sym (rows_within wide (of_rows s.start) cells))
-    ∙ ap ends (from_first_is start (behind-GoesUp s.start) (filter wide all) (Ascends-filter above above_exact wide all rising) ∙ filter_twice start wide (λ e k. row_first s.start e.key k) all)
+    ∙ ap ends (from_first_is start (behind-GoesUp s.start) (filter wide all) (Ascends-filter above above_exact wide all rising) ∙ filter_in start wide (λ e k. row_first s.start e.key k) all)
     ∙ up_to_is (λ e. is_before s.end e.key) (λ x y low h. before_down s.end x.key y.key h (key_le x y low)) (filter start all) (Ascends-filter above above_exact start all rising)
     ∙ sym (filter_both start (λ e. is_before s.end e.key) all)
   where

@@ -4,14 +4,15 @@ use Rattle.std.specs.Prelude.{IsErrAnd, IfOk}
 use Rattle.std.proofs.lemmas.List.{take_all}
 use Rattle.byteorder.specs.Endian.{big_bytes}
 use Rattle.tablet_model.specs.Cell.{Cell}
-use Rattle.whole_row.specs.RowText.{entries_bytes, row_text}
+use Rattle.byte_fields.specs.Fields.{Unread}
+use Rattle.byte_fields.proofs.Fields.{IsBytes}
+use Rattle.tablet_model.specs.RowText.{entries_bytes, row_text}
 use Rattle.whole_row.specs.RowLists.{IsRow}
-use Rattle.whole_row.specs.RowReading.{Unread, next_entry_at, entries_at, row_reading}
+use Rattle.whole_row.specs.RowReading.{next_entry_at, entries_at, row_reading}
 use Rattle.whole_row.specs.RowAnswers.{Fails, Gives}
 use Rattle.whole_row.specs.Bodies.{Body, body_text}
 use Rattle.whole_row.specs.declared.error.RowError.{RowError}
 use Rattle.whole_row.specs.declared.error.RowError.TheVariants.{Fault, NoMemory}
-use Rattle.whole_row.proofs.Fields.{IsBytes}
 use Rattle.whole_row.proofs.Texts.{text_again, text_take, with_front, entry_fault}
 
 -- an answer that passes on that an entry was not read

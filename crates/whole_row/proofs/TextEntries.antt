@@ -1,23 +1,39 @@
 -- An entry of a row that is written is read again, and one that is read was written so.
-use Rattle.std.proofs.Common.{◌≡◌, ℕ, ℤ, ◌^◌, ◌<◌, ◌≤◌, false, List, ◌++◌, length, Result, Ok, refl, sym, ap, subst, append_assoc, arith, FitsSigned}
+use Rattle.std.proofs.Common.{◌≡◌, ℕ, ◌^◌, ◌<◌, ◌≤◌, false, ltb, List, ◌++◌, length, Result, Ok, refl, sym, ap, subst, append_assoc, arith}
 use Rattle.std.specs.Int.{w64, cast_signed, cast_unsigned}
-use Rattle.std.proofs.lemmas.Int.{ints, to_z-of_z, of_z-to_z}
+use Rattle.std.proofs.lemmas.Bool.{ltb-false, le-ltb}
+use Rattle.std.proofs.lemmas.Int.{to_z-of_z, of_z-to_z}
 use Rattle.byteorder.specs.Endian.{big_bytes}
 use Rattle.tablet_model.specs.Cell.{CellKey, Cell}
 use Rattle.tablet_model.specs.Bounds.{KeyBounds, IsTime}
-use Rattle.whole_row.specs.RowText.{part_bytes, value_bytes, entry_bytes}
+use Rattle.tablet_model.proofs.Times.{time_fits, time_below, time_is}
+use Rattle.byte_fields.specs.Fields.{◌>>=◌, Unread, number_at, its_place}
+use Rattle.byte_fields.proofs.Fields.{bind_ok, ok_is, IsBytes, Takes, Takes-then, Again, Again-then, wide2, wide8, number_again, number_take, sized_again, sized_take}
+use Rattle.tablet_model.specs.RowText.{part_bytes, value_bytes, entry_bytes}
 use Rattle.whole_row.specs.RowLists.{IsRowEntry}
-use Rattle.whole_row.specs.RowReading.{◌>>=◌, Unread, number_at, part_at, value_at, key_at, entry_at}
-use Rattle.whole_row.proofs.Fields.{bind_ok, ok_is, IsBytes, Takes, Takes-then, Again, Again-then, wide8, number_again, number_take, part_again, part_take, value_again, value_take}
+use Rattle.whole_row.specs.RowReading.{part_at, value_at, key_at, entry_at}
 
-time_fits : (t : ℤ) → IsTime t → FitsSigned w64 t
-time_fits t h = omega (arith, ints)
+-- ---- a part of a key, and a value
 
-time_below : (t : ℤ) → IsTime t → cast_unsigned w64 t < 2 ^ 64
-time_below t h = omega (arith, ints)
+part_again : (part : List ℕ) → length part ≤ 1024 → Again part_at (part_bytes part) part
+unfolding part_at
+part_again part l = sized_again its_place its_place 2 (2 ^ 16) wide2 (ltb 1024) part (omega arith) (le-ltb _ _ l)
 
-time_is : (n : ℕ) → n < 2 ^ 64 → IsTime (cast_signed w64 n)
-time_is n h = (omega (arith, ints), omega (arith, ints))
+part_take : (u : Unread) (x : List ℕ × Unread) → IsBytes u.rest → part_at u ≡ Ok x → Takes u (part_bytes x.0) x.1 × (length x.0 ≤ 1024)
+unfolding part_at
+part_take u x fits e =
+    let t = sized_take its_place its_place 2 (2 ^ 16) wide2 (ltb 1024) u x fits e in
+    (t.0, ltb-false _ _ t.1)
+
+value_again : (value : List ℕ) → length value < 2 ^ 64 → Again value_at (value_bytes value) value
+unfolding value_at
+value_again value l = sized_again its_place its_place 8 (2 ^ 64) wide8 (λ _. false) value l refl
+
+value_take : (u : Unread) (x : List ℕ × Unread) → IsBytes u.rest → value_at u ≡ Ok x → Takes u (value_bytes x.0) x.1 × (length x.0 < 2 ^ 64)
+unfolding value_at
+value_take u x fits e =
+    let t = sized_take its_place its_place 8 (2 ^ 64) wide8 (λ _. false) u x fits e in
+    (t.0, t.2)
 
 -- ---- what is read behind each part of a key
 

@@ -7,44 +7,14 @@ use Rattle.std.proofs.lemmas.List.{append-nil}
 use Rattle.std.proofs.lemmas.List.Concat.{flat_map-cons}
 use Rattle.byteorder.specs.Endian.{big_bytes}
 use Rattle.tablet_model.specs.Cell.{Cell}
-use Rattle.tablet_model.specs.Order.{above}
-use Rattle.tablet_model.specs.Sorted.{Ascends}
-use Rattle.tablet_model.proofs.Orders.{above_exact}
-use Rattle.tablet_model.proofs.Sums.{all_weaker}
-use Rattle.whole_row.specs.RowText.{entry_bytes, entries_bytes, row_text}
-use Rattle.whole_row.specs.RowLists.{IsRowEntry, IsRow, is_out_of_order}
-use Rattle.whole_row.specs.RowReading.{◌>>=◌, Unread, number_at, count_at, entry_at, next_entry_at, entries_at, row_reading}
-use Rattle.whole_row.proofs.Fields.{bind_ok, else_ok, then_ok, ok_is, IsBytes, spot, Takes, Takes-then, Again, wide8, number_again, number_take}
+use Rattle.byte_fields.specs.Fields.{◌>>=◌, Unread, number_at}
+use Rattle.byte_fields.proofs.Fields.{bind_ok, else_ok, then_ok, ok_is, IsBytes, spot, Takes, Takes-then, Again, wide8, number_again, number_take}
+use Rattle.iter_contract.specs.Following.{is_out_of_order}
+use Rattle.iter_contract.proofs.Following.{Follows, ascends_follows, follows_ascends}
+use Rattle.tablet_model.specs.RowText.{entry_bytes, entries_bytes, row_text}
+use Rattle.whole_row.specs.RowLists.{IsRowEntry, IsRow}
+use Rattle.whole_row.specs.RowReading.{count_at, entry_at, next_entry_at, entries_at, row_reading}
 use Rattle.whole_row.proofs.TextEntries.{entry_again, entry_take}
-
--- ---- order
-
--- each entry of a list doesn't sort before the one before it
-abbrev Follows : Option Cell → List Cell → Type 0
-Follows before [] = Unit {0}
-Follows before (e ∷ es) = (is_out_of_order before e ≡ false) × Follows (Some e) es
-
-follows_head : (x : Cell) (xs : List Cell) → AllByRecursion (λ y. above x y ≡ false) xs → Ascends above xs → Follows (Some x) xs
-unfolding Ascends
-follows_head x [] h a = tt
-follows_head x (y ∷ ys) h a = (h.0, follows_head y ys a.0 a.1)
-
-ascends_follows : (list : List Cell) → Ascends above list → Follows None list
-unfolding Ascends
-ascends_follows [] a = tt
-ascends_follows (x ∷ xs) a = (refl, follows_head x xs a.0 a.1)
-
-head_ascends : (x : Cell) (xs : List Cell) → Follows (Some x) xs → AllByRecursion (λ y. above x y ≡ false) xs × Ascends above xs
-unfolding Ascends
-head_ascends x [] f = (tt, tt)
-head_ascends x (y ∷ ys) f =
-    let behind = head_ascends y ys f.1 in
-    ((f.0, all_weaker (λ z. above y z ≡ false) (λ z. above x z ≡ false) (λ z h. above_exact.chain x y z f.0 h) ys behind.0), (behind.0, behind.1))
-
-follows_ascends : (list : List Cell) → Follows None list → Ascends above list
-unfolding Ascends
-follows_ascends [] f = tt
-follows_ascends (x ∷ xs) f = head_ascends x xs f.1
 
 module _ (row : List ℕ) where
   -- ---- entries

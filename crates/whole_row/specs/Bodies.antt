@@ -2,7 +2,7 @@
 use Rattle.std.specs.Prelude.{ℕ, ◌+◌, List, [], ◌++◌}
 use Rattle.byteorder.specs.Endian.{big_bytes}
 use Rattle.tablet_model.specs.Cell.{Cell}
-use Rattle.whole_row.specs.RowText.{entry_bytes}
+use Rattle.tablet_model.specs.RowText.{entry_bytes}
 
 -- the number of some entries, and their bytes
 pub record Body : Type 0 where

@@ -1,4 +1,3 @@
-pub mod RowText
 pub mod RowLists
 pub mod RowReading
 pub mod RowAnswers

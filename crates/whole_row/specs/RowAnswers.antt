@@ -1,13 +1,7 @@
 -- What the code has of a text that it reads, and what it answers.
 use Rattle.std.specs.Prelude.{◌≡◌, ℕ, Result, Ok, Err, ⊤}
-use Rattle.whole_row.specs.RowReading.{Unread}
 use Rattle.whole_row.specs.declared.error.RowError.{RowError}
 use Rattle.whole_row.specs.declared.error.RowError.TheVariants.{Fault, NoMemory}
-use Rattle.whole_row.specs.declared.input.Input.{Input}
-
--- what an input says
-abbrev pub unread_of : Input → Unread
-unread_of input = record { at = input.at; rest = input.rest.now }
 
 -- an error is the fault of a reading, unless memory was wanting
 abbrev pub Fails : {Y : Type 0} → RowError → Result Y ℕ → Type 0

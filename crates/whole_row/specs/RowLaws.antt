@@ -1,26 +1,20 @@
--- The entries of whole rows are in order and within bounds. This is this project's own.
+-- The entries of whole rows are in order. This is this project's own.
 use Rattle.std.proofs.Common.{◌≡◌, ◌≤◌, ℕ, Bool, true, false, List, [], ◌∷◌, map, length, refl, sym, ap, ◌∙◌, Equal, Less, Greater, Ordering}
-use Rattle.std.specs.Int.Signed.{le_z_yes}
-use Rattle.std.specs.List.{AllByRecursion, filter}
+use Rattle.std.specs.List.{filter}
 use Rattle.std.specs.Ordering.{is_gt, ordering_then}
-use Rattle.std.proofs.Math.Nat.{le_of_sub-eq-zero}
 use Rattle.std.proofs.lemmas.Map.Lookups.{exact_bytes}
 use Rattle.tablet_model.specs.Cell.{Cell}
 use Rattle.tablet_model.specs.Order.{above, cell_cmp, key_cmp, column_cmp, bytes_cmp}
 use Rattle.tablet_model.specs.Sorted.{Ascends}
-use Rattle.tablet_model.specs.Bounds.{IsEntry, AreEntries}
 use Rattle.tablet_model.specs.Kept.{kept}
-use Rattle.tablet_model.specs.Rows.{same_bytes, same_row, leads_row, row_entry, whole_row}
+use Rattle.tablet_model.specs.Rows.{same_bytes, same_row, leads_row, row_entry, whole_row, last_time}
 use Rattle.tablet_model.proofs.Orders.{above_exact}
 use Rattle.tablet_model.proofs.CutLemmas.{key_le, row_le}
-use Rattle.tablet_model.proofs.Risings.{all_kept, Ascends-kept}
-use Rattle.whole_row.specs.RowText.{last_time, row_text, whole_rows}
+use Rattle.tablet_model.proofs.Maps.{all_map}
+use Rattle.tablet_model.proofs.Risings.{Ascends-kept}
+use Rattle.tablet_model.specs.RowText.{row_text, whole_rows}
 
 -- what is made of entries in order is in order, where it keeps the order of any two
-all_map : (P Q : Cell → Type 0) (f : Cell → Cell) → ((y : Cell) → P y → Q (f y)) → (ys : List Cell) → AllByRecursion P ys → AllByRecursion Q (map f ys)
-all_map P Q f h [] a = tt
-all_map P Q f h (y ∷ ys) a = (h y a.0, all_map P Q f h ys a.1)
-
 Ascends-map : (f : Cell → Cell) → ((x y : Cell) → above x y ≡ false → above (f x) (f y) ≡ false) → (xs : List Cell) → Ascends above xs → Ascends above (map f xs)
 unfolding Ascends
 Ascends-map f h [] a = tt
@@ -57,12 +51,3 @@ row_entry_order list x y h = go (bytes_cmp x.key.row y.key.row) refl (row_le x.k
 pub Ascends-whole_rows : (list : List Cell) → Ascends above list → Ascends above (whole_rows list)
 unfolding whole_row
 Ascends-whole_rows list up = Ascends-map (row_entry last_time row_text list) (row_entry_order list) (kept leads_row [] list) (Ascends-kept leads_row [] list up)
-
--- whole rows are within bounds
-pub whole_rows_bounded : (list : List Cell) → AreEntries list → AreEntries (whole_rows list)
-unfolding whole_row row_entry
-whole_rows_bounded list all =
-    all_map IsEntry IsEntry (row_entry last_time row_text list) (λ e h. ((h.0.0, h.0.1, empty, empty, empty), (le_z_yes tt, le_z_yes tt))) (kept leads_row [] list) (all_kept IsEntry leads_row [] list all)
-  where
-    empty : length {A = ℕ} [] ≤ 1024
-    empty = le_of_sub-eq-zero refl

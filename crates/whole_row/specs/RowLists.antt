@@ -1,5 +1,5 @@
 -- Which lists are the entries of a row. The bounds are this project's own.
-use Rattle.std.specs.Prelude.{◌≡◌, ℕ, ◌^◌, ◌<◌, ◌≤◌, Bool, false, List, length, Option, Some, None}
+use Rattle.std.specs.Prelude.{◌≡◌, ℕ, ◌^◌, ◌<◌, ◌≤◌, false, List, length}
 use Rattle.std.specs.List.{AllByRecursion}
 use Rattle.tablet_model.specs.Cell.{Cell}
 use Rattle.tablet_model.specs.Bounds.{IsEntry}
@@ -23,8 +23,3 @@ pub record IsRow (row : List ℕ) (list : List Cell) : Type 0 where
 -- no entry is a marker
 abbrev pub AreLive : List Cell → Type 0
 AreLive list = AllByRecursion (λ e. e.key.deleted ≡ false) list
-
--- whether an entry sorts before the one before it, if there is one
-abbrev pub is_out_of_order : Option Cell → Cell → Bool
-is_out_of_order None e = false
-is_out_of_order (Some before) e = above before e

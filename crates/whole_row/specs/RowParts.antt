@@ -4,9 +4,10 @@ use Rattle.tablet_model.specs.Cell.{Cell}
 use Rattle.tablet_model.specs.Order.{above}
 use Rattle.tablet_model.specs.Sorted.{Ascends}
 use Rattle.tablet_model.specs.Bounds.{AreEntries}
-use Rattle.whole_row.specs.RowText.{whole_rows}
+use Rattle.tablet_model.specs.RowText.{whole_rows}
+use Rattle.tablet_model.proofs.RowBounds.{whole_rows_bounded}
 use Rattle.whole_row.specs.RowStages.{row_left, RowFits}
-use Rattle.whole_row.specs.RowLaws.{Ascends-whole_rows, whole_rows_bounded}
+use Rattle.whole_row.specs.RowLaws.{Ascends-whole_rows}
 use Rattle.whole_row.specs.declared.row_iter.RowIter.{RowIter}
 
 module _ {S : Type 0} where

@@ -1,8 +1,7 @@
 -- One pass over a sorted list that makes each row one entry. All of this is this project's own.
 use Rattle.std.specs.Prelude.{ℕ, Bool, true, false, not, cond, List, [], ◌∷◌, Option, Some, None}
 use Rattle.tablet_model.specs.Cell.{Cell, CellKey, Column}
-use Rattle.tablet_model.specs.Rows.{same_bytes}
-use Rattle.whole_row.specs.RowText.{last_time}
+use Rattle.tablet_model.specs.Rows.{same_bytes, last_time}
 use Rattle.whole_row.specs.Bodies.{Body, no_entries, with_entry, body_text}
 
 -- a row whose entries are being put together

@@ -1,35 +1,10 @@
 -- How the text of a row is read, field by field; the place of the first fault is the answer where there is one. This is this
 -- project's own.
-use Rattle.std.specs.Prelude.{ℕ, zero, suc, ◌+◌, ◌==◌, if◌then◌else◌, nat_lt, false, List, [], ◌∷◌, length, take, drop, Option, Some, None, Result, Ok, Err}
+use Rattle.std.specs.Prelude.{ℕ, zero, suc, ◌==◌, if◌then◌else◌, nat_lt, false, List, [], ◌∷◌, length, Option, Some, None, Result, Ok, Err}
 use Rattle.std.specs.Int.{w64, cast_signed}
-use Rattle.byteorder.specs.Endian.{big_number}
 use Rattle.tablet_model.specs.Cell.{CellKey, Cell}
-use Rattle.whole_row.specs.RowLists.{is_out_of_order}
-
--- the readings in a row of a `do` block: the first fault ends it
-infixl 10 ◌>>=◌
-abbrev pub ◌>>=◌ : {A B : Type 0} → Result A ℕ → (A → Result B ℕ) → Result B ℕ
-(Ok x) >>= next = next x
-(Err place) >>= next = Err place
-
--- what is not read yet: its place in the text, and the bytes from there on
-pub record Unread : Type 0 where
-  pub at : ℕ
-  pub rest : List ℕ
-
--- what follows n bytes
-abbrev pub behind : ℕ → Unread → Unread
-behind n u = record { at = u.at + n; rest = drop n u.rest }
-
--- a field of n bytes, which lies within the text
-unfoldable pub bytes_at : ℕ → Unread → Result (List ℕ × Unread) ℕ
-bytes_at n u = if nat_lt (length u.rest) n then Err u.at else Ok (take n u.rest, behind n u)
-
--- a field that is a number of n bytes
-unfoldable pub number_at : ℕ → Unread → Result (ℕ × Unread) ℕ
-number_at n u = do
-  bytes ← bytes_at n u
-  Ok (big_number n bytes.0, bytes.1)
+use Rattle.byte_fields.specs.Fields.{◌>>=◌, Unread, number_at, its_place, sized_at}
+use Rattle.iter_contract.specs.Following.{is_out_of_order}
 
 -- the number of entries, at least 1
 unfoldable pub count_at : Unread → Result (ℕ × Unread) ℕ
@@ -39,15 +14,11 @@ count_at u = do
 
 -- a part of a key: its length, at most 1,024, and its bytes
 unfoldable pub part_at : Unread → Result (List ℕ × Unread) ℕ
-part_at u = do
-  n ← number_at 2 u
-  if nat_lt 1024 n.0 then Err u.at else bytes_at n.0 n.1
+part_at u = sized_at its_place its_place 2 (λ n. nat_lt 1024 n) u
 
 -- a value: its length and its bytes
 unfoldable pub value_at : Unread → Result (List ℕ × Unread) ℕ
-value_at u = do
-  n ← number_at 8 u
-  bytes_at n.0 n.1
+value_at u = sized_at its_place its_place 8 (λ n. false) u
 
 -- the key of an entry of a row: its other parts and its time
 unfoldable pub key_at : List ℕ → Unread → Result (CellKey × Unread) ℕ

@@ -11,7 +11,7 @@ use cell_key::{Bound, ColumnBuf, EntryRef, KeyRef, NoMemory, lies_behind};
 use iter_contract::SortedSource;
 
 /// Whether the key is of the row of the kept column.
-#[tactic(auto, using(crate::proofs::SameRow::same_texts))]
+#[tactic(auto, using(tablet_model::proofs::Texts::same_bytes_pointwise))]
 fn is_in_row(column: &ColumnBuf, key: KeyRef<'_>) -> bool
     requires { IsSome column.now }
     ensures { result ≡ is_row column.now key.entry.row.now }

@@ -4,7 +4,6 @@
 mod buf;
 mod error;
 mod gather;
-mod input;
 mod reading;
 mod row_iter;
 mod stage;

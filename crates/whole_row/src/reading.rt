@@ -2,14 +2,16 @@
 ghost use Rattle.std.specs.Prelude.{◌≡◌, ◌<◌, ◌≤◌, ◌^◌, IfOk, ℕ, List, Ok, None, length, option_map};
 ghost use Rattle.tablet_model.specs.Cell.{Cell};
 ghost use Rattle.cell_key.specs.Views.{cell_of, key_of};
-ghost use Rattle.whole_row.specs.RowAnswers.{Gives, unread_of};
-ghost use Rattle.whole_row.specs.RowLists.{is_out_of_order, IsRow};
+ghost use Rattle.byte_fields.specs.Answers.{unread_of};
+ghost use Rattle.whole_row.specs.RowAnswers.{Gives};
+ghost use Rattle.whole_row.specs.RowLists.{IsRow};
 ghost use Rattle.whole_row.specs.RowReading.{count_at, entries_at, entry_at, key_at, next_entry_at, part_at, row_reading, value_at};
-ghost use Rattle.whole_row.specs.RowText.{row_text};
+ghost use Rattle.tablet_model.specs.RowText.{row_text};
 
 use crate::error::RowError;
-use crate::input::Input;
-use cell_key::{Entries, Entry, EntryRef, KeyRef, MAX_KEY_PART, compare_entries};
+use byte_fields::Input;
+use cell_key::{Entries, Entry, EntryRef, KeyRef, MAX_KEY_PART};
+use iter_contract::is_out_of_order;
 use std::alloc::Global;
 
 /// The number of entries.
@@ -19,7 +21,7 @@ fn take_count(input: Input<'_>) -> Result<(u64, Input<'_>), RowError>
 {
     let (count, rest) = input.take_u64()?;
     if count == 0 {
-        return Err(input.fault());
+        return Err(RowError::at(input));
     }
     Ok((count, rest))
 }
@@ -33,9 +35,9 @@ fn take_part(input: Input<'_>) -> Result<(&[u8], Input<'_>), RowError>
     let (length, rest) = input.take_u16()?;
     let length = length as usize;
     if length > MAX_KEY_PART {
-        return Err(input.fault());
+        return Err(RowError::at(input));
     }
-    rest.take(length)
+    Ok(rest.take(length)?)
 }
 
 #[tactic(auto, unfolding(crate::specs::RowReading::value_at))]
@@ -43,7 +45,7 @@ fn take_value(input: Input<'_>) -> Result<(&[u8], Input<'_>), RowError>
     ensures { Gives (λ x. (x.0.now, unread_of x.1)) result (value_at (unread_of input.entry)) }
 {
     let (length, rest) = input.take_u64()?;
-    rest.take(length as usize)
+    Ok(rest.take(length as usize)?)
 }
 
 /// The key of an entry of the row.
@@ -80,17 +82,6 @@ fn take_entry<'a>(row: &'a [u8], input: Input<'a>) -> Result<(EntryRef<'a>, Inpu
     Ok((EntryRef { key, value }, input))
 }
 
-/// Whether an entry sorts before the one before it, if there is one.
-#[tactic(auto, unfolding(tablet_model::specs::Order::above))]
-fn is_out_of_order(before: Option<EntryRef<'_>>, entry: EntryRef<'_>) -> bool
-    ensures { result ≡ is_out_of_order (option_map cell_of before.entry) (cell_of entry.entry) }
-{
-    match before {
-        None => false,
-        Some(before) => compare_entries(before, entry).is_gt(),
-    }
-}
-
 /// The next entry of the row, which does not sort before the one before it.
 #[tactic(auto, unfolding(crate::specs::RowReading::next_entry_at))]
 fn take_next<'a>(
@@ -105,7 +96,7 @@ fn take_next<'a>(
 {
     let (entry, rest) = take_entry(row, input)?;
     if is_out_of_order(before, entry) {
-        return Err(input.fault());
+        return Err(RowError::at(input));
     }
     Ok((entry, rest))
 }
@@ -145,7 +136,7 @@ fn read_row(alloc: Global, row: &[u8], bytes: &[u8]) -> Result<Entries, RowError
     let (count, rest) = take_count(Input { at: 0, rest: bytes })?;
     let (entries, rest) = take_entries(alloc, row, count, rest)?;
     if !rest.rest.is_empty() {
-        return Err(rest.fault());
+        return Err(RowError::at(rest));
     }
     Ok(entries)
 }

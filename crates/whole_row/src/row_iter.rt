@@ -18,7 +18,7 @@ impl<S: SortedSource> RowIter<S> {
     ghost use Rattle.std.specs.Prelude.{false, IfOk};
     ghost use Rattle.iter_contract.specs.Copies.{IsCopy};
     ghost use Rattle.whole_row.specs.RowLists.{AreLive};
-    ghost use Rattle.whole_row.specs.RowText.{whole_rows};
+    ghost use Rattle.tablet_model.specs.RowText.{whole_rows};
     ghost use Rattle.whole_row.specs.RowParts.{row_cells, row_rest, row_steady, row_valid};
 
     /// An iterator over a source, which may have been sought or not, and has no markers. It takes the memory that `top` needs;

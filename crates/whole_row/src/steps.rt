@@ -5,7 +5,7 @@ ghost use Rattle.tablet_model.specs.Sorted.{first, later};
 ghost use Rattle.cell_key.specs.Ranges.{cut_of, span_of};
 ghost use Rattle.cell_key.specs.Views.{cell_of};
 ghost use Rattle.whole_row.specs.RowStages.{row_cut, row_left, RowFits};
-ghost use Rattle.whole_row.specs.RowText.{whole_rows};
+ghost use Rattle.tablet_model.specs.RowText.{whole_rows};
 
 use crate::gather::{drop_before, held_entry, settle};
 use crate::stage::RowStage;

@@ -1,36 +1,15 @@
 //! How the text of a row is written. Each function that appends may leave a part of it where memory is wanting.
 ghost use Rattle.std.specs.Prelude.{◌≡◌, ◌<◌, ◌≤◌, ◌++◌, ℕ, List, Ok, length, IfOk, OnOk};
 ghost use Rattle.std.specs.Int.{w64, cast_unsigned};
-ghost use Rattle.byteorder.specs.Endian.{big_bytes};
 ghost use Rattle.cell_key.specs.Views.{cell_of};
 ghost use Rattle.whole_row.specs.RowLists.{IsRow};
 ghost use Rattle.whole_row.specs.RowReading.{row_reading};
-ghost use Rattle.whole_row.specs.RowText.{entry_bytes, part_bytes, row_text, value_bytes};
+ghost use Rattle.tablet_model.specs.RowText.{entry_bytes, part_bytes, row_text, value_bytes};
 
 use crate::buf::RowBuf;
-use byteorder::{BigEndian, ByteOrder};
+use byte_fields::{append_u16, append_u64};
 use cell_key::{ByteText, Entries, EntryRef, NoMemory};
 use std::alloc::Global;
-
-fn append_u16(bytes: &mut Vec<u8>, number: u16) -> Result<(), NoMemory>
-    ensures text { OnOk result (bytes.new.items ≡ bytes.old.items ++ big_bytes 2 number) }
-    ensures longer { length bytes.old.items ≤ length bytes.new.items }
-{
-    let mut field = [0; 2];
-    BigEndian::write_u16(&mut field, number);
-    bytes.extend_from_slice(&field)?;
-    Ok(())
-}
-
-fn append_u64(bytes: &mut Vec<u8>, number: u64) -> Result<(), NoMemory>
-    ensures text { OnOk result (bytes.new.items ≡ bytes.old.items ++ big_bytes 8 number) }
-    ensures longer { length bytes.old.items ≤ length bytes.new.items }
-{
-    let mut field = [0; 8];
-    BigEndian::write_u64(&mut field, number);
-    bytes.extend_from_slice(&field)?;
-    Ok(())
-}
 
 fn append_part(bytes: &mut Vec<u8>, part: &[u8]) -> Result<(), NoMemory>
     requires { length part.now ≤ 1024 }
@@ -52,7 +31,7 @@ fn append_value(bytes: &mut Vec<u8>, value: &[u8]) -> Result<(), NoMemory>
 }
 
 /// Appends an entry without its row.
-#[tactic(auto, unfolding(crate::specs::RowText::entry_bytes))]
+#[tactic(auto, unfolding(tablet_model::specs::RowText::entry_bytes))]
 pub(crate) fn append_entry(bytes: &mut Vec<u8>, entry: EntryRef<'_>) -> Result<(), NoMemory>
     ensures text { OnOk result (bytes.new.items ≡ bytes.old.items ++ entry_bytes (cell_of entry.entry)) }
     ensures longer { length bytes.old.items ≤ length bytes.new.items }

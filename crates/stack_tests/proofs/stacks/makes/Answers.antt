@@ -5,7 +5,7 @@ use Rattle.iter_contract.specs.VecRest.{vec_cells}
 use Rattle.compactor.proofs.Stored.{storable_read}
 use Rattle.stack_tests.proofs.stacks.makes.Goals as goal
 
-pub build-requires-clause-read : goal.build-requires-clause-read
-build-requires-clause-read c =
+pub stack_has-requires-clause-read : goal.stack_has-requires-clause-read
+stack_has-requires-clause-read c =
     let specs = c.args.config.now in
     subst (AreUnmarkedRead (stages_of specs)) (sym c.in_ok-leaf.ensures.same_cells) (storable_read specs (vec_cells c.args.leaf.now) c.requires)

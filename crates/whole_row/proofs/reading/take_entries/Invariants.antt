@@ -1,7 +1,7 @@
 use Rattle.std.proofs.Common.{◌≡◌, None}
 use Rattle.std.specs.Option.{option_map}
 use Rattle.cell_key.specs.Views.{cell_of}
-use Rattle.whole_row.specs.RowAnswers.{unread_of}
+use Rattle.byte_fields.specs.Answers.{unread_of}
 use Rattle.whole_row.specs.RowReading.{entries_at}
 use Rattle.whole_row.proofs.Texts.{with_front}
 use Rattle.whole_row.proofs.reading.take_entries.Given as goal

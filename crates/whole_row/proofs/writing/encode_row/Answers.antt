@@ -1,6 +1,6 @@
 use Rattle.std.proofs.Common.{◌≡◌, ◌∙◌, subst}
 use Rattle.std.specs.Prelude.{IfOk}
-use Rattle.whole_row.specs.RowText.{row_text}
+use Rattle.tablet_model.specs.RowText.{row_text}
 use Rattle.whole_row.proofs.TextAnswers.{read_again, all_put}
 use Rattle.whole_row.proofs.writing.encode_row.Goals as goal
 use Rattle.whole_row.proofs.writing.encode_row.Goals.{After-drop-buf-inside-2}

@@ -1,5 +1,5 @@
 use Rattle.std.proofs.Common.{◌≡◌, take}
-use Rattle.whole_row.specs.RowText.{entries_bytes}
+use Rattle.tablet_model.specs.RowText.{entries_bytes}
 use Rattle.whole_row.proofs.writing.encode_row.Given as goal
 
 abbrev pub invariant-loop-entry : goal.invariant-loop-entry

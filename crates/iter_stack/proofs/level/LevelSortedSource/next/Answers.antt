@@ -1,6 +1,6 @@
 use Rattle.std.proofs.Common.{rules, [], ap, sym, ◌∙◌}
 use Rattle.std.specs.Arc.{arc_value}
-use Rattle.iter_stack.specs.Firsts.{at_first}
+use Rattle.intersecting.specs.Firsts.{at_first}
 use Rattle.iter_stack.specs.LevelStages.{stage_cells}
 use Rattle.iter_stack.specs.Levels.{level_cells}
 use Rattle.iter_stack.proofs.Alike.{combined_alike, made_alike}
