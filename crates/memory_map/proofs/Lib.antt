@@ -1,3 +1,4 @@
 pub mod Joins
+pub mod Orders
 pub mod Steady
 pub mod UpdateEntries

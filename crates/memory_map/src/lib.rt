@@ -8,4 +8,4 @@ mod updates;
 
 pub use mem_cursor::MemCursor;
 pub use mem_map::MemMap;
-pub use updates::append_mutation;
+pub use updates::mutation_entries;

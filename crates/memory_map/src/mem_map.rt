@@ -2,12 +2,14 @@
 ghost use Rattle.std.specs.Prelude.{◌≡◌, ◌+◌, ◌^◌, ◌≤◌, [], None, length, IfOk};
 ghost use Rattle.tablet_model.specs.History.{entries_of};
 ghost use Rattle.tablet_model.specs.Ingest.{out_of_bounds};
+ghost use Rattle.tablet_model.specs.Limits.{max_changes};
 ghost use Rattle.tablet_model.specs.Sum.{sum_of};
 ghost use Rattle.cell_key.specs.Mutations.{row_change_of};
 ghost use Rattle.memory_map.specs.CursorParts.{mem_cells, mem_rest};
 
 use crate::mem_cursor::MemCursor;
 use crate::runs::{Joining, joined, with_run};
+use crate::updates::mutation_entries;
 use cell_key::{Entries, Mutation, NoMemory};
 use std::alloc::Global;
 use std::marker::Model;
@@ -52,12 +54,22 @@ impl MemMap {
         requires { out_of_bounds (row_change_of mutation.now) ≡ None }
         ensures { IfOk result (λ map. map ≡ sum_of self.now (entries_of time (row_change_of mutation.now))) }
     {
-        let added = mutation.updates.len();
-        let Joining { kept, size } = Joining::of(&self.runs, added);
+        let entries = mutation_entries(alloc, mutation, time)?;
+        self.add(alloc, &entries)
+    }
+
+    /// A map that has also some entries, which it shares: no more than a mutation may have. It takes memory.
+    pub fn add(&self, alloc: Global, added: &Entries) -> Result<MemMap, NoMemory>
+        requires some { 1 ≤ length added.now }
+        requires few { length added.now ≤ max_changes }
+        ensures { IfOk result (λ map. map ≡ sum_of self.now added.now) }
+    {
+        let more = added.len();
+        let Joining { kept, size } = Joining::of(&self.runs, more);
         let (kept, others) = self.runs.split_at(kept);
-        let run = joined(alloc, others, mutation, time, size)?;
+        let run = joined(alloc, others, added, size)?;
         let runs = with_run(alloc, kept, run)?;
-        let count = self.count + added as u64;
+        let count = self.count + more as u64;
         Ok(MemMap { runs, count })
     }
 

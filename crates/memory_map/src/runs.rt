@@ -1,14 +1,12 @@
 //! The runs of a map, of which each is at least twice as long as the next.
-ghost use Rattle.std.specs.Prelude.{◌≡◌, ℕ, ◌+◌, ◌*◌, ◌^◌, ◌<◌, ◌≤◌, None, [], ◌∷◌, ◌++◌, drop, get_or, length, IfOk};
-ghost use Rattle.std.specs.List.{sum_by};
+ghost use Rattle.std.specs.Prelude.{◌≡◌, ℕ, ◌+◌, ◌*◌, ◌^◌, ◌<◌, ◌≤◌, [], ◌∷◌, ◌++◌, drop, get_or, length, true, IfOk, IsTrue, OnOk};
+ghost use Rattle.std.specs.List.{AllByRecursion, sum_by};
 ghost use Rattle.tablet_model.specs.Limits.{max_changes};
-ghost use Rattle.tablet_model.specs.History.{entries_of};
-ghost use Rattle.tablet_model.specs.Ingest.{out_of_bounds};
-ghost use Rattle.cell_key.specs.Mutations.{row_change_of};
+ghost use Rattle.tablet_model.specs.Order.{above};
+ghost use Rattle.tablet_model.specs.Sorted.{Ascends, sorted};
 ghost use Rattle.memory_map.specs.MapRuns.{lists_of, run_of, AreRuns};
 
-use crate::updates::append_mutation;
-use cell_key::{Entries, Mutation, NoMemory};
+use cell_key::{Entries, NoMemory, compare_entries};
 use std::alloc::Global;
 use std::sync::Arc;
 
@@ -39,27 +37,53 @@ impl Joining {
     }
 }
 
-/// The entries of some runs and of a mutation at a time as one run, of which the size is known.
+/// The entries of some runs and some more as one run, of which the size is known.
 pub(crate) fn joined(
     alloc: Global,
     runs: &[Arc<Entries>],
-    mutation: &Mutation,
-    time: i64,
+    added: &Entries,
     size: usize,
 ) -> Result<Entries, NoMemory>
-    requires { out_of_bounds (row_change_of mutation.now) ≡ None }
-    ensures run { IfOk result (λ run. run ≡ run_of (lists_of runs.now) (entries_of time (row_change_of mutation.now))) }
+    requires { AllByRecursion (Ascends above) (lists_of runs.now) }
+    ensures run { IfOk result (λ run. run ≡ run_of (lists_of runs.now) added.now) }
     ensures short { IfOk result (λ run. length run < 2 ^ 62) }
 {
     let mut entries = Entries::with_capacity(alloc, size)?;
-    for run in runs {
+    entries.append(added)?;
+    let mut is_sorted = added.len() == 1;
+    // The newest run first: where one column comes again and again, all are in order so.
+    let mut left = runs.len();
+    while left > 0 {
+        left -= 1;
+        let run = &runs[left];
+        is_sorted = is_sorted && may_follow(run, &entries);
         entries.append(run)?;
     }
-    append_mutation(alloc, &mut entries, mutation, time)?;
-    entries.sort()?;
+    put_in_order(&mut entries, is_sorted)?;
     // A slice in memory is short, so the runs can be counted.
     let _ = entries.as_slice().len();
     Ok(entries)
+}
+
+/// Whether entries that are in order may stand behind others.
+fn may_follow(entries: &Entries, others: &Entries) -> bool
+    ensures { IsTrue result → Ascends above others.now → Ascends above entries.now → Ascends above (others.now ++ entries.now) }
+{
+    match (others.as_slice().last(), entries.as_slice().first()) {
+        (Some(last), Some(first)) => !compare_entries(last.entry(), first.entry()).is_gt(),
+        (_, _) => true,
+    }
+}
+
+/// Sorts entries, unless they are in order already.
+fn put_in_order(entries: &mut Entries, is_sorted: bool) -> Result<(), NoMemory>
+    requires { is_sorted ≡ true → Ascends above entries.old }
+    ensures { OnOk result (entries.new ≡ sorted above entries.old) }
+{
+    if is_sorted {
+        return Ok(());
+    }
+    entries.sort()
 }
 
 /// These runs, shared, with one more at the end.

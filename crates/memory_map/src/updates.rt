@@ -1,5 +1,5 @@
 //! The entries that a mutation adds.
-ghost use Rattle.std.specs.Prelude.{◌≡◌, ◌++◌, None, OnOk};
+ghost use Rattle.std.specs.Prelude.{◌≡◌, ◌++◌, None, IfOk, OnOk};
 ghost use Rattle.tablet_model.specs.Bounds.{KeyBounds};
 ghost use Rattle.tablet_model.specs.History.{entries_of, entry_of};
 ghost use Rattle.tablet_model.specs.Ingest.{out_of_bounds};
@@ -9,8 +9,18 @@ ghost use Rattle.cell_key.specs.Views.{cell_of};
 use cell_key::{Entries, Entry, EntryRef, KeyRef, Mutation, NoMemory, Update};
 use std::alloc::Global;
 
+/// The entries of a mutation at a time, update by update. It takes memory.
+pub fn mutation_entries(alloc: Global, mutation: &Mutation, time: i64) -> Result<Entries, NoMemory>
+    requires { out_of_bounds (row_change_of mutation.now) ≡ None }
+    ensures { IfOk result (λ entries. entries ≡ entries_of time (row_change_of mutation.now)) }
+{
+    let mut entries = Entries::with_capacity(alloc, mutation.updates.len())?;
+    append_mutation(alloc, &mut entries, mutation, time)?;
+    Ok(entries)
+}
+
 /// Puts the entries of a mutation at a time at the end of a list, unsorted. Without memory some of them may stand there.
-pub fn append_mutation(
+fn append_mutation(
     alloc: Global,
     entries: &mut Entries,
     mutation: &Mutation,

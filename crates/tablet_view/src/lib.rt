@@ -7,6 +7,7 @@ mod files;
 mod log;
 mod rope;
 mod run;
+mod same_entries;
 mod view;
 mod view_source;
 

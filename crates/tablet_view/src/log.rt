@@ -1,16 +1,16 @@
 //! The mutations of a view, in shared runs.
-ghost use Rattle.std.specs.Prelude.{◌≡◌, ◌↔◌, ◌<◌, ◌≤◌, ◌+◌, ◌^◌, IsTrue, Some, [], ◌∷◌, ◌++◌, length, slice_get, take, IfOk, OnOk};
-ghost use Rattle.cell_key.specs.Mutations.{row_change_of};
+ghost use Rattle.std.specs.Prelude.{◌≡◌, ◌↔◌, ◌<◌, ◌≤◌, ◌+◌, ◌^◌, IsTrue, Some, [], ◌∷◌, ◌++◌, length, map, slice_get, take, IfOk, OnOk};
 ghost use Rattle.tablet_view.specs.Extending.{BeginsWith};
-ghost use Rattle.tablet_view.specs.LogParts.{all_in};
+ghost use Rattle.tablet_view.specs.LogParts.{all_in, mutation_in};
 ghost use Rattle.tablet_model.specs.Runs.{AreHalving};
 
 use crate::run::Run;
-use cell_key::{Mutation, NoMemory};
+use crate::same_entries::same_mutation;
+use cell_key::{Entries, Entry, NoMemory};
 use std::alloc::Global;
 use std::marker::Model;
 
-/// The mutations that came in, in order. A longer log shares them with the one that it continues.
+/// The mutations that came in, in order, each as its entries, which memory shares. A longer log shares them with the one that it continues.
 #[derive(Drop)]
 pub(crate) struct Log {
     /// Each run is at least twice as long as the next.
@@ -21,13 +21,12 @@ pub(crate) struct Log {
 impl Model for Log {
     ghost use Rattle.std.specs.Prelude.{◌≡◌, ◌<◌, ◌^◌, List, map, length};
     ghost use Rattle.tablet_model.specs.History.{RowChange};
-    ghost use Rattle.cell_key.specs.Mutations.{row_change_of};
-    ghost use Rattle.tablet_view.specs.LogParts.{all_in};
+    ghost use Rattle.tablet_view.specs.LogParts.{all_in, mutation_in};
     ghost use Rattle.tablet_model.specs.Runs.{AreHalving};
 
     ghost Value = { List RowChange };
 
-    ghost view = { λ l. map row_change_of (all_in l.runs.items) };
+    ghost view = { λ l. map mutation_in (all_in l.runs.items) };
 
     ghost invariant = { λ l. AreHalving (λ run. length run) l.runs.items × (l.count ≡ length (all_in l.runs.items)) × (l.count < 2 ^ 64) };
 }
@@ -43,13 +42,13 @@ impl Log {
         }
     }
 
-    /// The log with a mutation at its end. It takes memory for a copy of the mutation, and for the log's runs.
-    pub(crate) fn with(&self, alloc: Global, mutation: &Mutation) -> Result<Log, NoMemory>
+    /// The log with a mutation at its end, of which these are the entries. It takes memory for the log's runs.
+    pub(crate) fn with(&self, alloc: Global, entries: Entries) -> Result<Log, NoMemory>
         requires { length self.now + 1 < 2 ^ 64 }
-        ensures { IfOk result (λ log. log ≡ self.now ++ row_change_of mutation.now ∷ []) }
+        ensures { IfOk result (λ log. log ≡ self.now ++ mutation_in entries ∷ []) }
     {
         let mut runs = shared(alloc, &self.runs)?;
-        let last = Run::of(alloc, mutation.copy(alloc)?)?;
+        let last = Run::of(alloc, entries)?;
         push_joined(alloc, &mut runs, last)?;
         Ok(Log {
             runs,
@@ -115,18 +114,18 @@ fn push_joined(alloc: Global, runs: &mut Vec<Run>, last: Run) -> Result<(), NoMe
 fn begin_alike(runs: &[Run], others: &[Run], count: usize) -> bool
     requires here { count ≤ length (all_in runs.now) }
     requires there { count ≤ length (all_in others.now) }
-    ensures { IsTrue result ↔ (take count (all_in runs.now) ≡ take count (all_in others.now)) }
+    ensures { IsTrue result ↔ (take count (map mutation_in (all_in runs.now)) ≡ take count (map mutation_in (all_in others.now))) }
 {
     for i in 0..count {
-        if !mutation_at(runs, i).same(mutation_at(others, i)) {
+        if !same_mutation(mutation_at(runs, i), mutation_at(others, i)) {
             return false;
         }
     }
     true
 }
 
-/// The mutation at place `i` of runs, counted from 0.
-fn mutation_at(runs: &[Run], i: usize) -> &Mutation
+/// The entries of the mutation at place `i` of runs, counted from 0.
+fn mutation_at(runs: &[Run], i: usize) -> &[Entry]
     requires { i < length (all_in runs.now) }
     ensures { slice_get (all_in runs.now) i ≡ Some result.now }
 {

@@ -4,12 +4,12 @@ ghost use Rattle.std.specs.Arc.{arc_value};
 ghost use Rattle.tablet_view.specs.Ropes.{mutations_in};
 
 use crate::rope::Rope;
-use cell_key::{Mutation, NoMemory};
+use cell_key::{Entries, Entry, NoMemory};
 use std::alloc::Global;
 use std::marker::Model;
 use std::sync::Arc;
 
-/// A run of a log: some mutations in their order, shared with the logs that have the same run.
+/// A run of a log: the entries of some mutations in their order, shared with the logs that have the same run.
 #[derive(Drop)]
 pub(crate) struct Run {
     rope: Arc<Rope>,
@@ -19,10 +19,10 @@ pub(crate) struct Run {
 impl Model for Run {
     ghost use Rattle.std.specs.Prelude.{◌≡◌, List, length};
     ghost use Rattle.std.specs.Arc.{arc_value};
-    ghost use Rattle.cell_key.specs.declared.mutation.Mutation.{Mutation};
+    ghost use Rattle.tablet_model.specs.Cell.{Cell};
     ghost use Rattle.tablet_view.specs.Ropes.{mutations_in, IsCounted};
 
-    ghost Value = { List Mutation };
+    ghost Value = { List (List Cell) };
 
     ghost view = { λ r. mutations_in (arc_value r.rope) };
 
@@ -31,10 +31,10 @@ impl Model for Run {
 
 impl Run {
     /// The run of one mutation. It takes memory.
-    pub(crate) fn of(alloc: Global, mutation: Mutation) -> Result<Run, NoMemory>
-        ensures { IfOk result (λ run. run ≡ mutation ∷ []) }
+    pub(crate) fn of(alloc: Global, entries: Entries) -> Result<Run, NoMemory>
+        ensures { IfOk result (λ run. run ≡ entries ∷ []) }
     {
-        let rope = Arc::new(alloc, Rope::One(mutation))?;
+        let rope = Arc::new(alloc, Rope::of(entries)?)?;
         Ok(Run { rope, count: 1 })
     }
 
@@ -66,8 +66,8 @@ impl Run {
         self.count
     }
 
-    /// The mutation at place `i`, counted from 0. It takes no memory.
-    pub(crate) fn get(&self, i: usize) -> &Mutation
+    /// The entries of the mutation at place `i`, counted from 0. It takes no memory.
+    pub(crate) fn get(&self, i: usize) -> &[Entry]
         requires { i < length self.now }
         ensures { slice_get self.now i ≡ Some result.now }
     {

@@ -28,7 +28,7 @@ use crate::view_source::ViewSource;
 use cell_key::{Families, FileIds, Mutation, NoMemory};
 use compactor::{DoneJob, PartCursor};
 use iter_config::Config;
-use memory_map::MemMap;
+use memory_map::{MemMap, mutation_entries};
 use sorted_file::SortedFile;
 use std::alloc::Global;
 use std::marker::Model;
@@ -100,12 +100,13 @@ impl View {
         requires free { refused_by self.now (row_change_of mutation.now) ≡ None }
         ensures { IfOk result (λ view. view ≡ applied self.now (row_change_of mutation.now)) }
     {
+        let time = self.log.len() as i64 + 1;
+        let entries = mutation_entries(alloc, mutation, time)?;
         let config = Arc::try_clone(&self.config)?;
-        let log = Arc::new(alloc, self.log.with(alloc, mutation)?)?;
         let files = Arc::try_clone(&self.files)?;
         let frozen = shared(&self.frozen)?;
-        let time = self.log.len() as i64 + 1;
-        let memory = Arc::new(alloc, self.memory.insert(alloc, mutation, time)?)?;
+        let memory = Arc::new(alloc, self.memory.add(alloc, &entries)?)?;
+        let log = Arc::new(alloc, self.log.with(alloc, entries)?)?;
         Ok(View {
             config,
             log,

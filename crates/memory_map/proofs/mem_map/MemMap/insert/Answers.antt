@@ -1,67 +1,18 @@
-use Rattle.std.proofs.Common.{◌≡◌, ◌<◌, ◌^◌, ◌++◌, ◌∷◌, [], take, drop, ℤ, map, length, ap, subst, sym, ◌∙◌, arith}
-use Rattle.std.proofs.Math.Facts.{to_z-of_z}
+use Rattle.std.proofs.Common.{length, ◌∙◌, ap, arith}
 use Rattle.std.proofs.lemmas.List.{length-map}
-use Rattle.std.specs.Arc.{arc_value}
 use Rattle.tablet_model.proofs.Ingests.{inside}
-use Rattle.tablet_model.specs.History.{entries_of, entry_of}
-use Rattle.tablet_model.specs.Sum.{sum_all, sum_of}
-use Rattle.cell_key.specs.declared.mutation.Mutation.{Mutation}
-use Rattle.cell_key.specs.Mutations.{change_of, row_change_of}
-use Rattle.memory_map.specs.MapRuns.{lists_of, run_of, AreRuns}
-use Rattle.memory_map.proofs.Joins.{joined_runs, joined_sum, length-sum_all, length-sum_of, kept_lists, other_lists, short_sum}
+use Rattle.tablet_model.specs.History.{entry_of}
+use Rattle.cell_key.specs.Mutations.{row_change_of}
 use Rattle.memory_map.proofs.mem_map.MemMap.insert.Goals as goal
 
--- how many entries come in
-added_here : (time : ℤ) (mutation : Mutation) → length (entries_of time (row_change_of mutation)) ≡ length mutation.updates
-added_here time m = length-map (map change_of m.updates) (entry_of m.row time) ∙ length-map m.updates change_of
-
-pub of-kept-requires-clause-few : goal.of-kept-requires-clause-few
-of-kept-requires-clause-few c =
-    let few = (inside (row_change_of c.args.mutation.now) c.requires).few_changes in
-    let same = length-map c.args.mutation.now.updates change_of in
-    omega (arith, few, same)
-
-pub overflow_add-count : goal.overflow_add-count
-overflow_add-count c =
-    let few = (inside (row_change_of c.args.mutation.now) c.requires).few_changes in
-    let same = length-map c.args.mutation.now.updates change_of in
-    let lists = lists_of c.self.inside.runs.items in
-    let short = short_sum lists c.self.invariant.0 in
-    let long = length-sum_all lists in
-    let count = c.self.invariant.1 in
-    omega (arith, few, same, short, long, count)
-
--- the run that is new
-same_run : (c : goal.In_ok-runs) → c.in_ok-run.run' ≡ run_of (drop c.of-kept.result.kept (lists_of c.self.inside.runs.items)) (entries_of c.args.time (row_change_of c.args.mutation.now))
-same_run c =
-    let k = c.of-kept.result.kept in
-    let others = other_lists c.self.inside.runs.items c.split_at.result.1.now k (c.split_at.ensures.back ∙ ap (λ l. drop k l) c.deref-2.ensures.value) in
-    let made = rw (to_z-of_z c.ranges.time) at c.in_ok-run.ensures.run in
-    made ∙ ap (λ l. run_of l (entries_of c.args.time (row_change_of c.args.mutation.now))) others
-
--- all runs
-same_runs : (c : goal.In_ok-runs) → lists_of c.in_ok-runs.runs.items ≡ take c.of-kept.result.kept (lists_of c.self.inside.runs.items)
-    ++ run_of (drop c.of-kept.result.kept (lists_of c.self.inside.runs.items)) (entries_of c.args.time (row_change_of c.args.mutation.now)) ∷ []
-same_runs c =
-    let k = c.of-kept.result.kept in
-    let kept = kept_lists c.self.inside.runs.items c.split_at.result.0.now k (c.split_at.ensures.front ∙ ap (λ l. take k l) c.deref-2.ensures.value) in
-    c.in_ok-runs.ensures ∙ (λ i. kept i ++ same_run c i ∷ [])
-
-pub invariant_of-result : goal.invariant_of-result
-invariant_of-result c =
+pub add-requires-clause-some : goal.add-requires-clause-some
+add-requires-clause-some c =
     let some = (inside (row_change_of c.args.mutation.now) c.requires).some_changes in
-    let lists = lists_of c.self.inside.runs.items in
-    let new = entries_of c.args.time (row_change_of c.args.mutation.now) in
-    let added = added_here c.args.time c.args.mutation.now in
-    let k = c.of-kept.result.kept in
-    let of = rw c.deref.ensures.value at c.of-kept.ensures in
-    let joined = joined_runs lists k c.of-kept.result.size new c.self.invariant.0 (omega (arith, of.kept, length-map c.self.inside.runs.items (λ r. arc_value r)))
-    (omega (arith, of.size, added, c.len-added.ensures)) (omega (arith, some, added, length-map c.args.mutation.now.updates change_of)) of.twice (subst (λ run. length run < 2 ^ 62) (same_run c) c.in_ok-run.ensures.short) in
-    let sum = ap (λ l. length (sum_all l)) (same_runs c) ∙ ap length (joined_sum lists k new) ∙ length-sum_of (sum_all lists) new in
-    (subst AreRuns (sym (same_runs c)) joined, omega (arith, sum, added, c.self.invariant.1, c.len-added.ensures))
+    let same = ap length c.in_ok-entries.ensures ∙ length-map (row_change_of c.args.mutation.now).changes (entry_of c.args.mutation.now.row _) in
+    omega (arith, some, same)
 
-pub returns : goal.returns
-returns c =
-    let lists = lists_of c.self.inside.runs.items in
-    let new = entries_of c.args.time (row_change_of c.args.mutation.now) in
-    ap sum_all (same_runs c) ∙ joined_sum lists c.of-kept.result.kept new ∙ ap (λ l. sum_of l new) c.self.view_is
+pub add-requires-clause-few : goal.add-requires-clause-few
+add-requires-clause-few c =
+    let few = (inside (row_change_of c.args.mutation.now) c.requires).few_changes in
+    let same = ap length c.in_ok-entries.ensures ∙ length-map (row_change_of c.args.mutation.now).changes (entry_of c.args.mutation.now.row _) in
+    omega (arith, few, same)

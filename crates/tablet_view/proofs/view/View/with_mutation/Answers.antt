@@ -1,21 +1,45 @@
-use Rattle.std.proofs.Common.{arith, length, subst, sym}
+use Rattle.std.proofs.Common.{◌≡◌, ◌≤◌, ◌∙◌, None, ap, arith, length, subst, sym}
 use Rattle.std.proofs.lemmas.Grind.{common_steps}
+use Rattle.std.proofs.lemmas.List.{length-map}
+use Rattle.tablet_model.specs.History.{entry_of}
 use Rattle.tablet_model.specs.Ingest.{ingest, out_of_bounds}
-use Rattle.tablet_model.proofs.Ingests.{none_first, room_left}
-use Rattle.cell_key.specs.Mutations.{row_change_of}
+use Rattle.tablet_model.proofs.Ingests.{inside, none_first, room_left}
+use Rattle.cell_key.specs.Mutations.{change_of, row_change_of}
+use Rattle.cell_key.specs.declared.mutation.Mutation.{Mutation}
 use Rattle.iter_config.specs.RulesOf.{rules_of}
-use Rattle.tablet_view.specs.Snapshot.{IsStanding}
+use Rattle.tablet_view.specs.LogParts.{mutation_in}
+use Rattle.tablet_view.specs.Snapshot.{IsStanding, Snapshot, refused_by}
+use Rattle.tablet_view.proofs.Logs.{said}
 use Rattle.tablet_view.proofs.Standing.{standing_applied}
 use Rattle.tablet_view.proofs.view.View.with_mutation.Goals as goal
 
-pub insert-requires : goal.insert-requires
+-- a mutation that comes in is within bounds
+bounds_of : (v : Snapshot) (m : Mutation) → refused_by v (row_change_of m) ≡ None → out_of_bounds (row_change_of m) ≡ None
 unfolding ingest
-insert-requires c = none_first (out_of_bounds (row_change_of c.args.mutation.now)) _ c.requires.free
+bounds_of v m free = none_first (out_of_bounds (row_change_of m)) _ free
+
+pub mutation_entries-requires : goal.mutation_entries-requires
+mutation_entries-requires c = bounds_of c.args.self.now c.args.mutation.now c.requires.free
+
+pub add-requires-clause-some : goal.add-requires-clause-some
+add-requires-clause-some c =
+    let some = (inside (row_change_of c.args.mutation.now) (bounds_of c.args.self.now c.args.mutation.now c.requires.free)).some_changes in
+    let same = ap length c.in_ok-entries.ensures ∙ length-map (row_change_of c.args.mutation.now).changes (entry_of c.args.mutation.now.row _) in
+    omega (arith, some, same)
+
+pub add-requires-clause-few : goal.add-requires-clause-few
+add-requires-clause-few c =
+    let few = (inside (row_change_of c.args.mutation.now) (bounds_of c.args.self.now c.args.mutation.now c.requires.free)).few_changes in
+    let same = ap length c.in_ok-entries.ensures ∙ length-map (row_change_of c.args.mutation.now).changes (entry_of c.args.mutation.now.row _) in
+    omega (arith, few, same)
 
 pub returns : goal.returns
 returns c =
     let room = room_left (rules_of c.args.self.now.config) (length c.args.self.now.log) (row_change_of c.args.mutation.now) c.requires.free in
-    grind (arith, common_steps, room)
+    let some = (inside (row_change_of c.args.mutation.now) (bounds_of c.args.self.now c.args.mutation.now c.requires.free)).some_changes in
+    let updates : 1 ≤ length c.args.mutation.now.updates = omega (arith, some, length-map c.args.mutation.now.updates change_of) in
+    let log : mutation_in c.in_ok-entries.entries ≡ row_change_of c.args.mutation.now = ap mutation_in c.in_ok-entries.ensures ∙ said _ c.args.mutation.now updates in
+    grind (arith, common_steps, room, log)
 
 pub invariant_of-result : goal.invariant_of-result
 invariant_of-result c = subst IsStanding (sym (returns c)) (standing_applied c.args.self.now (row_change_of c.args.mutation.now) c.requires.free (subst IsStanding c.self.view_is c.self.invariant))
