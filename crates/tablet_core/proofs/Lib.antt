@@ -1,3 +1,4 @@
+pub mod Fewness
 pub mod Moves
 pub mod Freezes
 pub mod Flushes

@@ -1,5 +1,7 @@
 -- Steps of a core in general: refused, without memory, and made.
-use Rattle.std.proofs.Common.{◌≡◌, ℕ, ◌+◌, ◌≤◌, cond, List, [], Option, Some, None, is_some, unwrap_or, refl, sym, ap, ◌∙◌, subst, arith}
+use Rattle.std.proofs.Common.{◌≡◌, ℕ, ◌+◌, ◌≤◌, cond, List, [], length, Option, Some, None, is_some, unwrap_or, refl, sym, ap, ◌∙◌, subst, arith}
+use Rattle.std.specs.List.{AllByRecursion}
+use Rattle.tablet_model.specs.Limits.{max_files}
 use Rattle.tablet_model.specs.Rules.{Rules}
 use Rattle.tablet_model.specs.Stands.{Stands, StandsInJobs}
 use Rattle.tablet_model.specs.Steps.{Event, StepAnswer, answered, logged, refuse, step, step_answer, stepped}
@@ -11,7 +13,8 @@ use Rattle.iter_config.proofs.Soundness.{sound}
 use Rattle.tablet_view.specs.Extending.{Extends}
 use Rattle.tablet_view.specs.Snapshot.{IsStanding, store_of}
 use Rattle.tablet_view.proofs.Orders.{extends_refl}
-use Rattle.tablet_core.specs.State.{Answers, CoreState, IsStandingCore, IsStep, empty_core, state_of}
+use Rattle.tablet_core.specs.State.{Answers, CoreState, HasSome, IsStandingCore, IsStep, empty_core, state_of}
+use Rattle.tablet_core.proofs.Fewness.{IsFew, few_stepped}
 
 -- a number and the next one are not above the next one
 pub same_version : (n : ℕ) → n ≤ n + 1
@@ -75,13 +78,32 @@ jobs_stand e k l v t s =
     let after : StandsInJobs c (stepped c (state_of k) e) = (steps_stand c (state_of k) k.view.log e (sound k.view.config v.config) both).in_jobs in
     subst (λ d. StandsInJobs (rules_of d) (state_of l)) (sym s.config) (subst (StandsInJobs c) (sym s.store) after)
 
+-- so do the few files of the store
+few_stand : (e : Event) (k l : CoreState) → IsStandingCore k → IsStep e k l → IsFew (state_of l)
+unfolding state_of store_of
+few_stand e k l i s = subst IsFew (sym s.store) (few_stepped (rules_of k.view.config) (state_of k) e i.jobs (record { files = i.few; jobs = i.filled }))
+
+few_files : (l : CoreState) → IsFew (state_of l) → length l.view.files ≤ max_files
+unfolding state_of store_of
+few_files l few = few.files
+
+filled_jobs : (l : CoreState) → IsFew (state_of l) → AllByRecursion HasSome l.jobs
+unfolding state_of store_of
+filled_jobs l few = few.jobs
+
 -- and so does the core, where a new file is of a new snapshot
 pub core_stands : (e : Event) (k l : CoreState) (a : StepAnswer) → IsStanding k.view → IsStandingCore k → IsMade e k l a → (k.next ≤ k.view.version + 1 → l.next ≤ l.view.version + 1) → IsStandingCore l
-core_stands e k l a v i m n = record { jobs = jobs_stand e k l v i.jobs (made e k l a m).1; next = n i.next }
+core_stands e k l a v i m n =
+    let s = (made e k l a m).1 in
+    let few = few_stand e k l i s in
+    record { jobs = jobs_stand e k l v i.jobs s; next = n i.next; filled = filled_jobs l few; few = few_files l few }
 
 pub empty_standing : (config : List IterSpec) → IsStandingCore (empty_core config)
 unfolding state_of store_of
-empty_standing config = record { jobs = record { below = tt; files_there = tt; own_numbers = tt; files_apart = tt; others_newer = tt }; next = one 1 }
+empty_standing config = record { jobs = record { below = tt; files_there = tt; own_numbers = tt; files_apart = tt; others_newer = tt }; next = one 1; filled = tt; few = least 64 }
   where
     one : (n : ℕ) → n ≤ n
     one n = omega arith
+
+    least : (n : ℕ) → 0 ≤ n
+    least n = omega arith

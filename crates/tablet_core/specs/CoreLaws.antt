@@ -1,9 +1,13 @@
 -- The laws of cores, as statements: this project's own. What a job makes may be put in place after other steps.
 use Rattle.std.specs.Prelude.{◌≡◌, ℕ, List, Some, true, is_some}
 use Rattle.tablet_model.specs.Cell.{Cell}
+use Rattle.tablet_model.specs.Compactions.{minor_compaction}
 use Rattle.tablet_model.specs.Store.{RunningJob}
 use Rattle.tablet_model.specs.Steps.{Event, find_job, made_by}
 use Rattle.iter_config.specs.RulesOf.{rules_of}
+use Rattle.compactor.specs.Compacted.{compacted}
+use Rattle.tablet_view.specs.Snapshot.{Snapshot}
+use Rattle.tablet_core.specs.Jobs.{flush_of, major_of}
 use Rattle.tablet_core.specs.State.{CoreState, IsStandingCore, IsStep, state_of}
 
 -- a step that leaves a job running leaves what it makes
@@ -17,3 +21,11 @@ abbrev pub FrozenPartsStay : Type 0
 FrozenPartsStay = (e : Event) (k l : CoreState) (frozen : List Cell) → IsStep e k l
     → k.view.frozen ≡ Some frozen → is_some l.view.frozen ≡ true
     → l.view.frozen ≡ Some frozen
+
+-- what the minor compaction of a frozen part makes is what its file has to be
+abbrev pub FlushesFit : Type 0
+FlushesFit = (v : Snapshot) (frozen : List Cell) → compacted (flush_of v frozen) ≡ minor_compaction (rules_of v.config).minor frozen
+
+-- what the compaction of a running job makes is what the job's file has to be
+abbrev pub MajorsFit : Type 0
+MajorsFit = (k : CoreState) (t : RunningJob) → compacted (major_of k.view t) ≡ made_by (rules_of k.view.config) (state_of k) t

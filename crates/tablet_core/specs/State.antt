@@ -1,7 +1,9 @@
 -- The state of a core, and its steps. All of this is this project's own.
-use Rattle.std.specs.Prelude.{◌≡◌, ℕ, ◌+◌, ◌≤◌, true, List, [], Option, Some, None, is_some}
+use Rattle.std.specs.Prelude.{◌≡◌, ℕ, ◌+◌, ◌≤◌, true, false, List, [], length, Option, Some, None, is_some}
+use Rattle.std.specs.List.{AllByRecursion}
+use Rattle.tablet_model.specs.Limits.{max_files}
 use Rattle.tablet_model.specs.Store.{Store, RunningJob}
-use Rattle.tablet_model.specs.Steps.{Event, StepAnswer, refuse, answered, stepped, logged}
+use Rattle.tablet_model.specs.Steps.{Event, StepAnswer, refuse, answered, is_empty, stepped, logged}
 use Rattle.tablet_model.specs.Stands.{StandsInJobs}
 use Rattle.iter_config.specs.RulesOf.{rules_of}
 use Rattle.iter_config.specs.declared.iter_spec.IterSpec.{IterSpec}
@@ -24,10 +26,16 @@ state_of k = store_of k.view k.next k.jobs
 abbrev pub empty_core : List IterSpec → CoreState
 empty_core config = record { view = empty_snapshot config; next = 1; jobs = [] }
 
--- its jobs stand in its store, and the numbers of files stay below those of snapshots
+-- a job has files
+abbrev pub HasSome : RunningJob → Type 0
+HasSome t = is_empty t.ids ≡ false
+
+-- its jobs stand in its store and have files, the numbers of files stay below those of snapshots, and there are few files
 pub record IsStandingCore (k : CoreState) : Type 0 where
   pub jobs : StandsInJobs (rules_of k.view.config) (state_of k)
   pub next : k.next ≤ k.view.version + 1
+  pub filled : AllByRecursion HasSome k.jobs
+  pub few : length k.view.files ≤ max_files
 
 -- one step of the store of lists, with its log, by one snapshot at the most; a refused one changes nothing
 pub record IsStep (e : Event) (k l : CoreState) : Type 0 where

@@ -4,6 +4,14 @@ ghost use Rattle.std.specs.Arc.{arc_value};
 ghost use Rattle.tablet_view.specs.Snapshot.{IsStanding};
 ghost use Rattle.tablet_core.specs.State.{IsStandingCore, empty_core};
 
+mod applying;
+mod finishing;
+mod flushing;
+mod freezing;
+mod starting;
+mod stepping;
+mod telling;
+
 use cell_key::NoMemory;
 use compactor::RunningJobs;
 use iter_config::Config;
@@ -15,9 +23,9 @@ use tablet_view::View;
 /// A tablet's core: its view and its running jobs. Contracts see the store of lists that they are.
 #[derive(Drop)]
 pub struct Core {
-    pub(crate) view: Arc<View>,
-    pub(crate) next: u64,
-    pub(crate) jobs: RunningJobs,
+    view: Arc<View>,
+    next: u64,
+    jobs: RunningJobs,
 }
 
 impl Model for Core {
@@ -50,6 +58,7 @@ impl Core {
         ensures stands { IsStanding self.now.view }
         ensures jobs { IsStandingCore self.now }
     {
+        // That the view stands for its log is what `config` says.
         let _ = self.view.config();
         &self.view
     }

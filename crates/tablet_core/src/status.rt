@@ -1,12 +1,6 @@
 //! What a store has, as it is told.
-ghost use Rattle.std.specs.Prelude.{◌≡◌, map, IfOk};
-ghost use Rattle.tablet_core.specs.Status.{IsStatusOf, count_of};
-
-use crate::core_state::Core;
-use cell_key::{Items, NoMemory};
+use cell_key::Items;
 use compactor::JobStates;
-use std::alloc::Global;
-use tablet_view::View;
 
 /// A file's number, and how many entries it has.
 #[derive(Clone, Copy, Debug, PartialEq, Eq)]
@@ -30,30 +24,4 @@ pub struct StoreStatus {
     pub files: FileCounts,
     /// The running jobs, in the order of their numbers.
     pub jobs: JobStates,
-}
-
-fn file_counts(view: &View, alloc: Global) -> Result<FileCounts, NoMemory>
-    ensures { IfOk result (λ counts. counts ≡ map count_of view.now.files) }
-{
-    let mut counts = FileCounts::new(alloc);
-    for i in 0..view.file_count() {
-        let (id, count) = view.file_at(i);
-        counts.push(FileCount { id, count })?;
-    }
-    Ok(counts)
-}
-
-impl Core {
-    /// What the core has now. It takes memory.
-    pub fn status(&self, alloc: Global) -> Result<StoreStatus, NoMemory>
-        ensures { IfOk result (λ status. IsStatusOf self.now status) }
-    {
-        Ok(StoreStatus {
-            log: self.view.mutations(),
-            memory: self.view.memory_count(),
-            frozen: self.view.frozen_count(),
-            files: file_counts(&self.view, alloc)?,
-            jobs: self.jobs.in_order(alloc)?,
-        })
-    }
 }

@@ -1,7 +1,0 @@
-use Rattle.std.proofs.Common.{◌≡◌, map, take}
-use Rattle.tablet_model.specs.Store.{named}
-use Rattle.compactor.specs.PartCells.{part_cells}
-use Rattle.tablet_core.proofs.finishing.parts.Given as goal
-
-abbrev pub invariant-loop-i : goal.invariant-loop-i
-invariant-loop-i l = map part_cells l.parts.items ≡ map (λ file. file.cells) (named l.files (take l.i l.view.files))
