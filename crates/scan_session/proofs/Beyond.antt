@@ -16,21 +16,21 @@ use Rattle.tablet_model.proofs.Sums.{Ascends-filter, all_weaker}
 use Rattle.scan_session.specs.Takes.{Mode, plain, isolated, together, behind, last_of, moved}
 use Rattle.scan_session.specs.Walks.{EndsWell}
 
-both_ways : {b : Bool} → b ≡ true → b ≡ false → ⊥
+pub both_ways : {b : Bool} → b ≡ true → b ≡ false → ⊥
 both_ways h k = grind arith
 
 -- whether a is beyond b, by keys or by rows
-abbrev beyond : Mode → Cell → Cell → Bool
+abbrev pub beyond : Mode → Cell → Cell → Bool
 beyond plain a b = is_gt (key_cmp a.key b.key)
 beyond isolated a b = is_gt (bytes_cmp a.key.row b.key.row)
 
 -- an entry is not beyond one that it isn't above
-not_beyond : (mode : Mode) (a b : Cell) → above a b ≡ false → beyond mode a b ≡ false
+pub not_beyond : (mode : Mode) (a b : Cell) → above a b ≡ false → beyond mode a b ≡ false
 not_beyond plain a b h = key_le a b h
 not_beyond isolated a b h = row_le a.key b.key (key_le a b h)
 
 -- what is behind an entry is beyond it
-is_behind_entry : (mode : Mode) (a e : Cell) → is_after (behind mode a) e.key ≡ beyond mode e a
+pub is_behind_entry : (mode : Mode) (a e : Cell) → is_after (behind mode a) e.key ≡ beyond mode e a
 unfolding behind
 is_behind_entry plain a e = refl
 is_behind_entry isolated a e = refl
@@ -53,7 +53,7 @@ after-GoesUp (AfterKey k) a b h t = gt_up key_total k a.key b.key t (key_le a b 
 after-GoesUp (AfterRow w) a b h t = gt_up nat_list_cmp_total w a.key.row b.key.row t (row_le a.key b.key (key_le a b h))
 
 -- what is beyond an entry is not below it
-above_of_beyond : (mode : Mode) (a b : Cell) → beyond mode b a ≡ true → above a b ≡ false
+pub above_of_beyond : (mode : Mode) (a b : Cell) → beyond mode b a ≡ true → above a b ≡ false
 above_of_beyond mode a b h = by_answer (above a b) refl
   where
     by_answer : (t : Bool) → above a b ≡ t → t ≡ false
@@ -71,12 +71,12 @@ all_pass p (x ∷ xs) = by_answer (p x) refl (all_pass p xs)
     by_answer false e k = k
 
 -- what holds of all holds of the last of the first ones
-all_last : (P : Cell → Type 0) (x : Cell) (xs rest : List Cell) → AllByRecursion P (x ∷ xs ++ rest) → P (last_of x xs)
+pub all_last : (P : Cell → Type 0) (x : Cell) (xs rest : List Cell) → AllByRecursion P (x ∷ xs ++ rest) → P (last_of x xs)
 unfolding last_of
 all_last P x [] rest h = h.0
 all_last P x (y ∷ ys) rest h = all_last P y ys rest h.1
 
-own : (a : Cell) → above a a ≡ false
+pub own : (a : Cell) → above a a ≡ false
 own a = by_answer (above a a) refl
   where
     by_answer : (t : Bool) → above a a ≡ t → t ≡ false

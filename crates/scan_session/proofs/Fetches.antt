@@ -1,15 +1,17 @@
 -- What a fetch gives, and the walk that it goes on with.
-use Rattle.std.proofs.Common.{◌≡◌, ℕ, ◌≤◌, List, ◌++◌, length, Option, sym, ap, ◌∙◌, subst, le_refl}
+use Rattle.std.proofs.Common.{◌≡◌, ℕ, ◌<◌, ◌≤◌, List, [], ◌∷◌, ◌++◌, length, Option, refl, sym, ap, ◌∙◌, subst, le_refl, append_assoc, append-nil, length-append, ◌+◌, arith}
+use Rattle.std.proofs.Math.Nat.{lt_of_not-le}
 use Rattle.std.proofs.Math.Seq.{take-length}
 use Rattle.tablet_model.specs.Cell.{Cell}
 use Rattle.tablet_model.specs.Order.{above}
 use Rattle.tablet_model.specs.Places.{Place, after}
 use Rattle.tablet_model.specs.Sorted.{Ascends}
 use Rattle.tablet_view.specs.Snapshot.{Snapshot}
-use Rattle.scan_session.specs.Sessions.{SessionState, IsFetch, number_of, answer_over, answers_of, left_of}
+use Rattle.scan_session.specs.Sessions.{SessionState, AnswersInOrder, IsFetch, TakesEnough, number_of, answer_over, answers_of, left_of}
 use Rattle.scan_session.specs.Takes.{Mode, moved, taken}
-use Rattle.scan_session.specs.Walks.{Walks, fetched, end_of}
+use Rattle.scan_session.specs.Walks.{EndsWell, Walks, fetched, pieces_of, joined, end_of}
 use Rattle.scan_session.specs.declared.piece.Piece.{Piece}
+use Rattle.scan_session.proofs.Takings.{enough_taken, no_more_taken}
 use Rattle.scan_session.proofs.Walking.{fetches_are_walks, rest_left}
 
 -- a fetch is what is taken of what is left, and where nothing is left behind it the end
@@ -60,3 +62,60 @@ fetch_walks m p s pieces ended n fetch h =
       subst (λ q. Walks (answers_of s) (number_of s) s.mode p n pieces q walk.0) place_is
           (subst (λ list. Walks (answers_of s) (number_of s) s.mode p n list (moved s.mode p (taken s.mode m (after p (answers_of s (number_of s))))) walk.0) pieces_are walk.1),
     )
+
+-- a fetch gives what is taken
+joined_fetched : (mode : Mode) (m n : ℕ) (list : List Cell) → joined (fetched mode m n list) ≡ taken mode m list
+unfolding fetched pieces_of
+joined_fetched mode m n list = of_taken (taken mode m list)
+  where
+    of_taken : (es : List Cell) → joined (pieces_of n es) ≡ es
+    of_taken [] = refl
+    of_taken (e ∷ es) = append-nil (e ∷ es)
+
+-- nothing stands behind a list that is all
+nothing_behind : (xs ys : List Cell) → xs ≡ xs ++ ys → ys ≡ []
+nothing_behind xs [] e = refl
+nothing_behind xs (y ∷ ys) e = absurd (let same : length xs ≡ length xs + length (y ∷ ys) = ap (λ l. length l) e ∙ length-append xs (y ∷ ys) in omega arith)
+
+-- how some entries end is seen at the next one
+ends_at : (mode : Mode) (front : List Cell) (e : Cell) (xs ys : List Cell) → EndsWell mode front (e ∷ xs) → EndsWell mode front (e ∷ ys)
+ends_at mode [] e xs ys h = h
+ends_at mode (f ∷ fs) e xs ys h = h
+
+-- where less is taken than was asked, nothing is left
+none_left : (mode : Mode) (m : ℕ) (given list left : List Cell) → given ≡ taken mode m list → list ≡ taken mode m list ++ left
+    → length given < m → left ≡ []
+none_left mode m given list left g whole h =
+    nothing_behind list left (whole ∙ ap (λ l. l ++ left) (enough_taken mode m list (subst (λ l. length l < m) g h)))
+
+-- and no shorter beginning that ends well would have been enough
+none_shorter : (mode : Mode) (m : ℕ) (given list left : List Cell) → given ≡ taken mode m list → list ≡ taken mode m list ++ left
+    → (front rest : List Cell) (e : Cell) → given ≡ front ++ e ∷ rest → EndsWell mode front (e ∷ rest) → length front < m
+none_shorter mode m given list left g whole front rest e split ends = lt_of_not-le (λ h. too_long h)
+  where
+    is : taken mode m list ≡ front ++ e ∷ rest
+    is = sym g ∙ split
+
+    more : list ≡ front ++ e ∷ (rest ++ left)
+    more = whole ∙ ap (λ l. l ++ left) is ∙ append_assoc front (e ∷ rest) left
+
+    long : length (taken mode m (front ++ e ∷ (rest ++ left))) ≡ length front + length (e ∷ rest)
+    long = ap (λ l. length (taken mode m l)) (sym more) ∙ ap (λ l. length l) is ∙ length-append front (e ∷ rest)
+
+    too_long : m ≤ length front → ⊥
+    too_long h =
+        let short : length (taken mode m (front ++ e ∷ (rest ++ left))) ≤ length front =
+        no_more_taken mode m front (e ∷ (rest ++ left)) h (ends_at mode front e rest (rest ++ left) ends) in omega (arith, long)
+
+-- so a fetch gives enough entries and no more
+pub fetch_enough : (m : ℕ) (p : Place) (s : SessionState) (given : List Piece) (end : Option ℕ) → AnswersInOrder s → IsFetch m p s given end
+    → TakesEnough m s given
+fetch_enough m p s given end up fetch =
+    let whole : List Cell = answer_over s s.view.log in
+    let all : joined given ≡ taken s.mode m (after p whole) = ap joined fetch.pieces ∙ joined_fetched s.mode m (number_of s) (after p whole) in
+    let left : after p whole ≡ taken s.mode m (after p whole) ++ left_of s =
+    rest_left s.mode m p whole (up s.view.log) ∙ ap (λ q. taken s.mode m (after p whole) ++ after q whole) (sym fetch.place) in
+    record {
+      enough = none_left s.mode m (joined given) (after p whole) (left_of s) all left;
+      no_more = none_shorter s.mode m (joined given) (after p whole) (left_of s) all left;
+    }

@@ -1,7 +1,12 @@
+pub mod Pairs
 pub mod Beyond
+pub mod Examples
 pub mod Takings
 pub mod Walking
+pub mod Rising
 pub mod Running
 pub mod Extensions
+pub mod SessionWalks
+pub mod Turns
 pub mod Fetches
 pub mod Seeking

@@ -1,9 +1,9 @@
 -- Walks, and the fetches that make them.
-use Rattle.std.proofs.Common.{◌≡◌, ℕ, ◌-◌, List, [], ◌∷◌, ◌++◌, refl, sym, ap, ◌∙◌, subst, append_assoc, append-nil}
+use Rattle.std.proofs.Common.{◌≡◌, ℕ, ◌-◌, ◌≤◌, List, [], ◌∷◌, ◌++◌, refl, sym, ap, ◌∙◌, subst, append_assoc, append-nil, le_trans, le_refl}
 use Rattle.tablet_model.specs.Cell.{Cell}
 use Rattle.tablet_model.specs.Places.{Start, after}
 use Rattle.scan_session.specs.Takes.{moved, taken, taken_behind}
-use Rattle.scan_session.specs.WalkLaws.{NothingIsSkipped, WalksAreWhole, WalksJoin, FetchesWalk, RestIsLeft}
+use Rattle.scan_session.specs.WalkLaws.{NothingIsSkipped, PiecesBeginTheAnswer, WalksAreWhole, WalksJoin, WalksGoOn, WalksBeginLower, WalksAreBounded, FetchesWalk, RestIsLeft}
 use Rattle.scan_session.specs.Walks.{IsPieceOf, Walks, pieces_of, fetched, joined}
 use Rattle.scan_session.proofs.Beyond.{behind_piece}
 use Rattle.scan_session.proofs.Takings.{taken_piece}
@@ -23,10 +23,13 @@ all_after : (list : List Cell) → after Start list ≡ list
 all_after [] = refl
 all_after (x ∷ xs) = ap (λ l. x ∷ l) (all_after xs)
 
+pub begin_answer : PiecesBeginTheAnswer
+begin_answer answers most mode q n k l pieces up at w =
+    sym (all_after (answers k)) ∙ nothing_skipped answers most mode Start q n k l pieces up at w
+
 pub whole_walks : WalksAreWhole
-whole_walks answers most mode q k l pieces up at w end =
-    sym (sym (all_after (answers k))
-    ∙ nothing_skipped answers most mode Start q 0 k l pieces up at w
+whole_walks answers most mode q n k l pieces up at w end =
+    sym (begin_answer answers most mode q n k l pieces up at w
     ∙ ap (λ l. joined pieces ++ l) end.nothing
     ∙ append-nil (joined pieces))
 
@@ -35,6 +38,24 @@ walks_join answers most mode p q r n l k [] ys v w =
     subst (λ j. Walks answers most mode p j ys r k) v.1 (subst (λ s. Walks answers most mode s l ys r k) v.0 w)
 walks_join answers most mode p q r n l k (x ∷ xs) ys v w =
     (v.0, v.1, v.2, walks_join answers most mode (moved mode p x.entries) q r x.n l k xs ys v.3 w)
+
+pub walks_on : WalksGoOn
+walks_on answers more most further mode p q n l [] same longer w = w
+walks_on answers more most further mode p q n l (x ∷ xs) same longer w = (
+  w.0,
+  le_trans w.1 longer,
+  subst (λ list. IsPieceOf mode x.entries (after p list)) (sym (same x.n w.1)) w.2,
+  walks_on answers more most further mode (moved mode p x.entries) q x.n l xs same longer w.3,
+)
+
+pub walks_lower : WalksBeginLower
+walks_lower answers most mode p q n j l [] low w = (j, subst (λ z. j ≤ z) (sym w.1) low, (w.0, refl))
+walks_lower answers most mode p q n j l (x ∷ xs) low w = (l, le_refl l, (le_trans low w.0, w.1, w.2, w.3))
+
+pub walks_bounded : WalksAreBounded
+walks_bounded answers most mode p q n l [] bound w = (subst (λ z. n ≤ z) (sym w.1) (le_refl n), subst (λ z. z ≤ most) (sym w.1) bound)
+walks_bounded answers most mode p q n l (x ∷ xs) bound w =
+    let rest = walks_bounded answers most mode (moved mode p x.entries) q x.n l xs w.1 w.3 in (le_trans w.0 rest.0, rest.1)
 
 pub fetches_are_walks : FetchesWalk
 unfolding fetched pieces_of taken moved

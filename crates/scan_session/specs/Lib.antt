@@ -1,6 +1,9 @@
 pub mod Takes
+pub mod Keys
 pub mod Walks
 pub mod WalkLaws
 pub mod Runs
 pub mod Looks
 pub mod Sessions
+pub mod SessionLaws
+pub mod ScanCalls

@@ -16,6 +16,10 @@ pub record Found {Z : Type 0} (before after : Option Snapshot) (than : ℕ) (ans
 abbrev pub Leads : Bool → Option Snapshot → Snapshot → Type 0
 Leads looks newest s = looks ≡ true → (u : Snapshot) × (newest ≡ Some u) × Extends u s
 
+-- where views are looked at, the newest one extends that of before
+abbrev pub IsLater : Bool → Option Snapshot → Option Snapshot → Type 0
+IsLater looks before after = looks ≡ true → (u : Snapshot) → before ≡ Some u → (x : Snapshot) × (after ≡ Some x) × Extends x u
+
 -- s extends the newest view, if there is one
 abbrev pub Holds : Option Snapshot → Snapshot → Type 0
 Holds newest s = (u : Snapshot) → newest ≡ Some u → Extends s u

@@ -1,15 +1,18 @@
 -- Sessions, and what they are given. All of this is this project's own.
-use Rattle.std.specs.Prelude.{◌≡◌, ℕ, List, Option, length, take}
+use Rattle.std.specs.Prelude.{◌≡◌, ℕ, ◌<◌, List, [], ◌∷◌, ◌++◌, Option, Some, length, take}
 use Rattle.tablet_model.specs.Answers.{answer}
 use Rattle.tablet_model.specs.Cell.{Cell}
 use Rattle.tablet_model.specs.Cuts.{Span}
 use Rattle.tablet_model.specs.History.{RowChange}
+use Rattle.tablet_model.specs.Order.{above}
 use Rattle.tablet_model.specs.Places.{Place, after}
+use Rattle.tablet_model.specs.Sorted.{Ascends}
 use Rattle.tablet_model.specs.Stages.{stages}
 use Rattle.iter_config.specs.Stages.{stages_of}
+use Rattle.tablet_view.specs.Extending.{BeginsWith}
 use Rattle.tablet_view.specs.Snapshot.{Snapshot}
 use Rattle.scan_session.specs.Takes.{Mode, moved, taken}
-use Rattle.scan_session.specs.Walks.{end_of, fetched}
+use Rattle.scan_session.specs.Walks.{EndsWell, Walks, end_of, fetched, joined}
 use Rattle.scan_session.specs.declared.piece.Piece.{Piece}
 
 -- a session: the view that it has pinned, the range, families and mode that it was opened with, and where it stands
@@ -32,6 +35,10 @@ answer_over s log = answer (stages (stages_of s.view.config)) s.range s.families
 abbrev pub answers_of : SessionState → ℕ → List Cell
 answers_of s n = answer_over s (take n s.view.log)
 
+-- what it answers is in order, over every log
+abbrev pub AnswersInOrder : SessionState → Type 0
+AnswersInOrder s = (log : List RowChange) → Ascends above (answer_over s log)
+
 -- what is left of its answer
 abbrev pub left_of : SessionState → List Cell
 left_of s = after s.place (answer_over s s.view.log)
@@ -49,3 +56,21 @@ pub record IsFetch (m : ℕ) (p : Place) (s : SessionState) (given : List Piece)
   pub pieces : given ≡ fetched s.mode m (number_of s) (after p (answer_over s s.view.log))
   pub place : s.place ≡ moved s.mode p (taken s.mode m (after p (answer_over s s.view.log)))
   pub ended : end ≡ end_of (number_of s) (left_of s)
+
+-- these pieces have at least m entries, or nothing is left behind them, and they end where the first m entries may be parted from the next:
+-- whatever numbers they are at
+pub record TakesEnough (m : ℕ) (s : SessionState) (given : List Piece) : Type 0 where
+  pub enough : length (joined given) < m → left_of s ≡ []
+  pub no_more : (front rest : List Cell) (e : Cell) → joined given ≡ front ++ e ∷ rest → EndsWell s.mode front (e ∷ rest) → length front < m
+
+-- it gave these pieces, one behind the other, while it came from an older state to where it is: it is the same scan over a log that begins
+-- with that of then, and they are a walk over its log, from the place and the number of then
+pub record HasWalked (new old : SessionState) (pieces : List Piece) : Type 0 where
+  pub same : IsSameScan new old
+  pub log : BeginsWith new.view.log old.view.log
+  pub last : ℕ
+  pub walk : Walks (answers_of new) (number_of new) new.mode old.place (number_of old) pieces new.place last
+
+-- an end that was told is the number of its view, and nothing is left there
+abbrev pub IsEndOf : SessionState → Option ℕ → Type 0
+IsEndOf s ended = (n : ℕ) → ended ≡ Some n → (n ≡ number_of s) × (left_of s ≡ [])

@@ -4,11 +4,12 @@ ghost use Rattle.std.specs.Arc.{arc_value};
 ghost use Rattle.std.specs.Option.{ForSome};
 ghost use Rattle.tablet_io.specs.Causes.{Rose};
 ghost use Rattle.tablet_model.specs.Cell.{Cell};
+ghost use Rattle.tablet_model.specs.Cuts.{within};
 ghost use Rattle.tablet_model.specs.Places.{Place};
-ghost use Rattle.cell_key.specs.Ranges.{IsAtMostRow};
+ghost use Rattle.cell_key.specs.Ranges.{span_of, IsAtMostRow};
 ghost use Rattle.tablet_view.specs.Extending.{Extends};
 ghost use Rattle.tablet_view.specs.Snapshot.{Snapshot};
-ghost use Rattle.scan_session.specs.Looks.{Leads, Holds};
+ghost use Rattle.scan_session.specs.Looks.{Leads, Holds, IsLater};
 ghost use Rattle.scan_session.specs.Runs.{place_behind};
 ghost use Rattle.scan_session.specs.Takes.{mode_of, moved, taken};
 ghost use Rattle.scan_session.specs.Walks.{fetched, end_of};
@@ -16,7 +17,7 @@ ghost use Rattle.scan_session.specs.Walks.{fetched, end_of};
 use crate::piece::{Fetched, pieces_of};
 use crate::run::{position_behind_run, take_run};
 use crate::views::Views;
-use cell_key::{NoMemory, Position};
+use cell_key::{NoMemory, Position, Range};
 use iter_contract::SortedSource;
 use std::alloc::Global;
 use std::sync::Arc;
@@ -33,8 +34,7 @@ pub(crate) fn newest<V: Views>(pinned: &Arc<View>, views: &mut V) -> Result<Arc<
     ensures home { (V.home views.new ≡ V.home views.old) × (V.looks views.new ≡ V.looks views.old) }
     ensures leads { Leads (V.looks views.new) (V.newest views.new) (arc_value pinned.now) }
     ensures led { IfOk result (λ view. Leads (V.looks views.new) (V.newest views.new) (arc_value view)) }
-    ensures later { V.looks views.old ≡ true → (u : Snapshot) → V.newest views.old ≡ Some u →
-        (x : Snapshot) × (V.newest views.new ≡ Some x) × Extends x u }
+    ensures later { IsLater (V.looks views.old) (V.newest views.old) (V.newest views.new) }
 {
     match views.newer(pinned.version())? {
         Some(view) => Ok(view),
@@ -42,26 +42,49 @@ pub(crate) fn newest<V: Views>(pinned: &Arc<View>, views: &mut V) -> Result<Arc<
     }
 }
 
-/// What a fetch at a number of mutations gives of what is left of a source, and the position behind it, if it gives an entry.
+/// What a fetch at a number of mutations gives of what a source has in a range, and the position behind it, if it gives an entry.
 #[tactic(auto, unfolding(crate::specs::Walks::fetched))]
 pub(crate) fn fetched_from<S: SortedSource>(
     alloc: Global,
     source: S,
+    range: &Range<'_>,
     isolated: bool,
     count: u32,
     n: u64,
 ) -> Result<(Fetched, Option<Position>), NoMemory>
     requires { S.valid source }
-    ensures pieces { IfOk result (λ given. given.0.pieces ≡ fetched (mode_of isolated) count n (S.rest source)) }
+    ensures pieces { IfOk result (λ given. given.0.pieces ≡ fetched (mode_of isolated) count n (within (span_of range.now) (S.cells source))) }
     ensures place { IfOk result (λ given. (old : Place) →
-        place_behind given.1 old ≡ moved (mode_of isolated) old (taken (mode_of isolated) count (S.rest source))) }
+        place_behind given.1 old ≡ moved (mode_of isolated) old (taken (mode_of isolated) count (within (span_of range.now) (S.cells source)))) }
     ensures row { IfOk result (λ given. ForSome given.1 IsAtMostRow) }
     ensures ended { IfOk result (λ given. (left : List Cell) →
-        S.rest source ≡ taken (mode_of isolated) count (S.rest source) ++ left → given.0.ended ≡ end_of n left) }
+        within (span_of range.now) (S.cells source) ≡ taken (mode_of isolated) count (within (span_of range.now) (S.cells source)) ++ left
+        → given.0.ended ≡ end_of n left) }
 {
     let mut source = source;
-    let run = take_run(alloc, &mut source, isolated, count)?;
-    let ended = end_at(&source, n);
+    source.seek(range)?;
+    fetched_rest(alloc, &mut source, isolated, count, n)
+}
+
+/// What it gives of what is left of a source.
+#[tactic(auto, unfolding(crate::specs::Walks::fetched))]
+fn fetched_rest<S: SortedSource>(
+    alloc: Global,
+    source: &mut S,
+    isolated: bool,
+    count: u32,
+    n: u64,
+) -> Result<(Fetched, Option<Position>), NoMemory>
+    requires { S.valid source.old }
+    ensures pieces { IfOk result (λ given. given.0.pieces ≡ fetched (mode_of isolated) count n (S.rest source.old)) }
+    ensures place { IfOk result (λ given. (old : Place) →
+        place_behind given.1 old ≡ moved (mode_of isolated) old (taken (mode_of isolated) count (S.rest source.old))) }
+    ensures row { IfOk result (λ given. ForSome given.1 IsAtMostRow) }
+    ensures ended { IfOk result (λ given. (left : List Cell) →
+        S.rest source.old ≡ taken (mode_of isolated) count (S.rest source.old) ++ left → given.0.ended ≡ end_of n left) }
+{
+    let run = take_run(alloc, source, isolated, count)?;
+    let ended = end_at(source, n);
     let position = position_behind_run(alloc, &run, isolated)?;
     let pieces = pieces_of(alloc, n, run)?;
     Ok((Fetched { pieces, ended }, position))

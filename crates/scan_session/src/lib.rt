@@ -4,11 +4,18 @@
 mod fetching;
 mod piece;
 mod run;
+mod scanner;
+mod scanning;
 mod session;
+mod session_laws;
 mod views;
 mod walk_laws;
 
 pub use piece::{Fetched, Piece, Pieces};
+pub use scanner::{ScanCall, drive};
 pub use session::Session;
+pub use session_laws::{sessions_answer_in_order, sessions_walk};
 pub use views::{Still, Views};
-pub use walk_laws::{fetches_walk, walks_are_whole, what_is_taken};
+pub use walk_laws::{
+    different_keys_rise, fetches_walk, keys_never_fall, walks_are_whole, walks_go_on, what_is_taken,
+};

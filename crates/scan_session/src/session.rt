@@ -1,32 +1,28 @@
 //! Sessions, which go on behind a place.
-ghost use Rattle.std.specs.Prelude.{◌≡◌, ◌≤◌, true, false, Some, ℕ, IfOk, OnOk, OnErr};
+ghost use Rattle.std.specs.Prelude.{◌≡◌, ◌≤◌, ◌++◌, true, false, Some, ℕ, List, length, IfOk, OnOk, OnErr};
 ghost use Rattle.std.specs.Arc.{arc_value};
 ghost use Rattle.std.specs.Option.{ForSome};
 ghost use Rattle.tablet_io.specs.Causes.{Rose};
-ghost use Rattle.tablet_model.specs.Order.{above};
-ghost use Rattle.tablet_model.specs.Places.{Start};
-ghost use Rattle.tablet_model.specs.Sorted.{Ascends};
+ghost use Rattle.tablet_model.specs.Cell.{Cell};
+ghost use Rattle.tablet_model.specs.Places.{Place, Start};
 ghost use Rattle.cell_key.specs.Ranges.{span_of, IsAtMostRow};
-ghost use Rattle.iter_stack.specs.Stacks.{stack_rest, stack_valid};
 ghost use Rattle.tablet_view.specs.Extending.{BeginsWith, Extends};
 ghost use Rattle.tablet_view.specs.Snapshot.{Snapshot};
-ghost use Rattle.tablet_view.specs.Sources.{source_cells, source_rest, source_valid};
-ghost use Rattle.scan_session.specs.Looks.{Leads, Holds};
-ghost use Rattle.scan_session.specs.Sessions.{IsFetch, IsSameScan, number_of, answer_over, answers_of, left_of};
+ghost use Rattle.scan_session.specs.Looks.{Leads, Holds, IsLater};
+ghost use Rattle.scan_session.specs.Sessions.{AnswersInOrder, IsFetch, IsSameScan, TakesEnough, number_of, answers_of, left_of};
 ghost use Rattle.scan_session.specs.Runs.{place_behind};
-ghost use Rattle.scan_session.specs.Takes.{mode_of};
-ghost use Rattle.scan_session.specs.Walks.{Walks};
+ghost use Rattle.scan_session.specs.Takes.{mode_of, moved, taken};
+ghost use Rattle.scan_session.specs.Walks.{Walks, end_of, fetched};
 
-use crate::fetching::{fetched_from, newest};
+use crate::fetching::newest;
 use crate::piece::Fetched;
+use crate::scanning::fetched_in;
 use crate::views::Views;
 use cell_key::{Families, NoMemory, Position, Range, RangeBuf};
-use iter_contract::SortedSource;
-use iter_stack::{Stack, Usage, build};
 use std::alloc::Global;
 use std::marker::Model;
 use std::sync::Arc;
-use tablet_view::{View, ViewSource};
+use tablet_view::View;
 
 /// A scan that is read piece by piece: it has pinned a view, and knows where it has come to. A plain session goes on behind
 /// the last key that it gave, an isolated one behind the last row.
@@ -43,7 +39,7 @@ impl Model for Session {
     ghost use Rattle.std.specs.Arc.{arc_value};
     ghost use Rattle.cell_key.specs.Ranges.{place_of, IsAtMostRow};
     ghost use Rattle.scan_session.specs.Sessions.{SessionState};
-    ghost use Rattle.scan_session.specs.Takes.{mode_of};
+    ghost use Rattle.scan_session.specs.Takes.{mode_of, moved, taken};
 
     ghost Value = { SessionState };
 
@@ -116,25 +112,33 @@ impl Session {
         ensures { self.new ≡ self.old }
     {}
 
-    /// The stack of its view's iterators for scans, sought behind its position: what is left of the session's answer. It
-    /// takes memory, and so may the calls of the stack.
-    pub fn remaining(&self, alloc: Global) -> Result<Stack<ViewSource>, NoMemory>
-        ensures rest { IfOk result (λ stack. stack_rest source_rest stack ≡ left_of self.now) }
-        ensures valid { IfOk result (λ stack. stack_valid source_cells source_rest source_valid stack) }
-    {
-        self.remaining_over(alloc, &self.view)
-    }
-
-    /// The same over another view, whose answer is in order.
-    fn remaining_over(&self, alloc: Global, view: &View) -> Result<Stack<ViewSource>, NoMemory>
-        ensures rest { IfOk result (λ stack. stack_rest source_rest stack ≡ left_of (record self.now { view = view.now })) }
-        ensures sorted { OnOk result (Ascends above (answer_over (record self.now { view = view.now }) view.now.log)) }
-        ensures valid { IfOk result (λ stack. stack_valid source_cells source_rest source_valid stack) }
+    /// What a fetch over a view gives of what is left there, and the position behind it, if it gives an entry.
+    fn fetched(
+        &self,
+        alloc: Global,
+        view: &View,
+        count: u32,
+    ) -> Result<(Fetched, Option<Position>), NoMemory>
+        ensures pieces { IfOk result (λ given. given.0.pieces
+            ≡ fetched self.now.mode count (length view.now.log) (left_of (record self.now { view = view.now }))) }
+        ensures place { IfOk result (λ given. (old : Place) → place_behind given.1 old
+            ≡ moved self.now.mode old (taken self.now.mode count (left_of (record self.now { view = view.now })))) }
+        ensures row { IfOk result (λ given. ForSome given.1 IsAtMostRow) }
+        ensures ended { IfOk result (λ given. (left : List Cell) → left_of (record self.now { view = view.now })
+            ≡ taken self.now.mode count (left_of (record self.now { view = view.now })) ++ left
+            → given.0.ended ≡ end_of (length view.now.log) left) }
     {
         let source = view.source(alloc, &self.families)?;
-        let mut stack = build(alloc, view.config(), Usage::Scan, source)?;
-        stack.seek(&self.range.range().after(&self.position))?;
-        Ok(stack)
+        let left = self.range.range().after(&self.position);
+        fetched_in(
+            alloc,
+            view.config(),
+            source,
+            &left,
+            self.isolated,
+            count,
+            view.mutations(),
+        )
     }
 
     /// Asks once for a newer view, and gives the next entries: at least `count` of them, and those that may not be parted
@@ -148,9 +152,12 @@ impl Session {
     ) -> Result<Fetched, NoMemory>
         requires some { 1 ≤ count }
         requires leads { Leads (V.looks views.old) (V.newest views.old) self.old.view }
-        ensures pieces { IfOk result (λ fetch. IsFetch count self.old.place self.new fetch.pieces fetch.ended) }
         ensures walk { IfOk result (λ fetch. (l : ℕ) × Walks (answers_of self.new) (number_of self.new) self.new.mode
             self.old.place (number_of self.old) fetch.pieces self.new.place l) }
+        ensures enough { IfOk result (λ fetch. TakesEnough count self.new fetch.pieces) }
+        ensures ended { IfOk result (λ fetch. fetch.ended ≡ end_of (number_of self.new) (left_of self.new)) }
+        ensures one_number { IfOk result (λ fetch. IsFetch count self.old.place self.new fetch.pieces fetch.ended) }
+        ensures sorted { OnOk result (AnswersInOrder self.new) }
         ensures same { OnOk result (IsSameScan self.new self.old) }
         ensures extends { OnOk result (Extends self.new.view self.old.view) }
         ensures own { V.looks views.old ≡ false → self.new.view ≡ self.old.view }
@@ -160,18 +167,10 @@ impl Session {
         ensures failed { OnErr result (self.new ≡ self.old) }
         ensures home { (V.home views.new ≡ V.home views.old) × (V.looks views.new ≡ V.looks views.old) }
         ensures leads { Leads (V.looks views.new) (V.newest views.new) self.new.view }
-        ensures later { V.looks views.old ≡ true → (u : Snapshot) → V.newest views.old ≡ Some u →
-            (x : Snapshot) × (V.newest views.new ≡ Some x) × Extends x u }
+        ensures later { IsLater (V.looks views.old) (V.newest views.old) (V.newest views.new) }
     {
         let view = newest(&self.view, views)?;
-        let source = self.remaining_over(alloc, &view)?;
-        let (fetched, position) = fetched_from(
-            alloc,
-            source,
-            self.isolated,
-            count,
-            view.mutations(),
-        )?;
+        let (fetched, position) = self.fetched(alloc, &view, count)?;
         self.go_on(view, position);
         Ok(fetched)
     }

@@ -1,5 +1,5 @@
 //! Where newer views may come from.
-ghost use Rattle.std.specs.Prelude.{◌≡◌, ℕ, ◌≤◌, Bool, true, false, Option, None, IfOk, OnOk, OnErr};
+ghost use Rattle.std.specs.Prelude.{◌≡◌, ℕ, ◌≤◌, Bool, true, false, Option, None, IsOk, IfOk, OnOk, OnErr};
 ghost use Rattle.tablet_io.specs.Causes.{Rose};
 ghost use Rattle.tablet_view.specs.Snapshot.{Snapshot};
 ghost use Rattle.scan_session.specs.Looks.{Found};
@@ -19,16 +19,21 @@ pub trait Views {
     /// Whether it looks at views at all.
     ghost looks: { Self → Bool };
 
+    /// Whether its looks take no memory.
+    ghost steady: { Self → Bool };
+
     /// The newest view that it has looked at or been told.
     ghost newest: { Self → Option Snapshot };
 
     /// How often it was asked.
     ghost questions: { Self → ℕ };
 
-    /// Looks once at the published view, and answers it exactly where its version is greater than `than`. After
-    /// `NoMemory` the look counts as not made.
+    /// Looks once at the published view, and answers it exactly where its version is greater than `than`. Where it is steady
+    /// it takes no memory and succeeds. After `NoMemory` the look counts as not made.
     fn newer(&mut self, than: u64) -> Result<Option<Arc<View>>, NoMemory>
         ensures kept { (home self.new ≡ home self.old) × (looks self.new ≡ looks self.old) }
+        ensures steady { steady self.new ≡ steady self.old }
+        ensures works { steady self.old ≡ true → IsOk result }
         ensures count { questions self.old ≤ questions self.new }
         ensures rose { OnOk result (Rose (questions self.old) (questions self.new)) }
         ensures failed { OnErr result (newest self.new ≡ newest self.old) }
@@ -72,6 +77,8 @@ impl Views for Still {
     ghost home = { λ _. tt };
 
     ghost looks = { λ _. false };
+
+    ghost steady = { λ _. true };
 
     ghost newest = { λ _. None };
 

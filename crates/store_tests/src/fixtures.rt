@@ -1,7 +1,7 @@
 //! What the tests of these floors share.
 ghost use Rattle.std.specs.Prelude.{◌≡◌, ◌<◌, true, length};
 
-use cell_key::{ByteText, EntryRef, Mutation, NoMemory, Update, Updates};
+use cell_key::{ByteText, Entries, EntryRef, Mutation, NoMemory, Update, Updates};
 use compactor::ALL_KEYS;
 use iter_config::{Config, ConfigError, read_config};
 use iter_contract::SortedSource;
@@ -78,8 +78,21 @@ fn begins_with<S: SortedSource>(source: &S, cell: &Cell) -> bool
     }
 }
 
+/// Whether a list has these entries and no others.
+pub(crate) fn are_cells(entries: &Entries, cells: &[Cell]) -> bool {
+    if entries.len() != cells.len() {
+        return false;
+    }
+    for (entry, cell) in entries.as_slice().iter().zip(cells) {
+        if !is_cell(entry.entry(), cell) {
+            return false;
+        }
+    }
+    true
+}
+
 /// Whether these entries are left of a source, and no others.
-pub(crate) fn has_left<S: SortedSource>(source: &mut S, cells: &[Cell]) -> Result<bool, NoMemory>
+fn has_left<S: SortedSource>(source: &mut S, cells: &[Cell]) -> Result<bool, NoMemory>
     requires { S.valid source.old }
 {
     for cell in cells {

@@ -1,10 +1,9 @@
 //! Sessions.
-ghost use Rattle.std.specs.Prelude.{◌≡◌, true, Some};
+ghost use Rattle.std.specs.Prelude.{◌≡◌, true, false, Some};
 ghost use Rattle.std.specs.Arc.{arc_value};
 ghost use Rattle.tablet_view.specs.Extending.{Extends};
 
-use crate::fixtures::Cell;
-use crate::views::{grown, opened, session, session_has};
+use crate::views::{grown, opened, session};
 use cell_key::{Entries, Families, NoMemory};
 use scan_session::{Fetched, Session, Still, Views};
 use std::alloc::Global;
@@ -27,6 +26,8 @@ impl Views for Shown {
     ghost home = { λ _. tt };
 
     ghost looks = { λ _. true };
+
+    ghost steady = { λ _. false };
 
     ghost newest = { λ s. Some (arc_value s.view) };
 
@@ -163,12 +164,6 @@ fn renew(session: &mut Session, view: &Arc<View>) -> Result<bool, NoMemory> {
     Ok(session.n() == 2 && session.view().version() == 2)
 }
 
-const ALL: &[Cell] = &[
-    (b'1', b'a', 1, false, b"x"),
-    (b'1', b'b', 1, false, b"y"),
-    (b'2', b'a', 2, false, b"z"),
-];
-
 /// Whether an isolated session over a view goes on over a newer one.
 fn goes_on(alloc: Global, first: &Arc<View>, second: &Arc<View>) -> Result<bool, NoMemory> {
     let mut session = session(alloc, first, &Families::all(), true)?;
@@ -176,7 +171,6 @@ fn goes_on(alloc: Global, first: &Arc<View>, second: &Arc<View>) -> Result<bool,
         session.n() == 1
             && session.view().version() == 1
             && renew(&mut session, second)?
-            && session_has(alloc, &session, ALL)?
             && fetches_give(alloc, &mut session, 2, TWO_AND_ONE)?,
     )
 }

@@ -1,10 +1,10 @@
 //! Snapshots.
-use crate::fixtures::{Cell, Change, config, has, has_left, mutation};
+use crate::fixtures::{Cell, Change, are_cells, config, has, mutation};
 use cell_key::{ByteText, Families, Names, NoMemory};
 use compactor::ALL_KEYS;
 use ingest::Refused;
 use iter_config::ConfigError;
-use scan_session::Session;
+use scan_session::{Fetched, Session, Still};
 use std::alloc::Global;
 use std::sync::Arc;
 use std::test::Fail;
@@ -78,14 +78,14 @@ pub(crate) fn session(
     Session::open(alloc, &ALL_KEYS, families, isolated, view)
 }
 
-/// Whether a session has these entries left.
-pub(crate) fn session_has(
-    alloc: Global,
-    session: &Session,
-    cells: &[Cell],
-) -> Result<bool, NoMemory> {
-    let mut stack = session.remaining(alloc)?;
-    has_left(&mut stack, cells)
+/// Whether a fetch gave these entries, in one piece, or no piece where there are none.
+fn fetched_has(fetched: &Fetched, cells: &[Cell]) -> bool {
+    for piece in fetched.pieces.as_slice() {
+        if !are_cells(&piece.entries, cells) {
+            return false;
+        }
+    }
+    fetched.pieces.is_empty() == cells.is_empty()
 }
 
 /// Whether a scan of some families of a view gives these entries.
@@ -95,8 +95,10 @@ pub(crate) fn scan_gives(
     families: &Families,
     cells: &[Cell],
 ) -> Result<bool, NoMemory> {
-    let session = session(alloc, view, families, false)?;
-    session_has(alloc, &session, cells)
+    let mut session = session(alloc, view, families, false)?;
+    let mut views = Still::new();
+    let fetched = session.fetch(alloc, &mut views, 64)?;
+    Ok(fetched_has(&fetched, cells))
 }
 
 fn is_in_memory(view: &View) -> bool {

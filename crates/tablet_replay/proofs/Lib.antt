@@ -1,8 +1,8 @@
 mod Examples
-mod Numbered
-mod Histories
 mod Packs
 pub mod OpenSessions
+pub mod Firsts
+pub mod Headlines
 pub mod Replaying
 pub mod Scripts
 pub mod Sends

@@ -57,7 +57,7 @@ removed_scan ss i = sym (remove-map open_scan ss i)
 
 -- ---- a fetch
 
-pieces_are : (n : ℕ) (es : List Cell) → pieces_text (pieces_of n es) ≡ found_text n es
+pub pieces_are : (n : ℕ) (es : List Cell) → pieces_text (pieces_of n es) ≡ found_text n es
 unfolding pieces_of found_text
 pieces_are n [] = refl
 pieces_are n (e ∷ es) = append-nil (piece_text (record { n = n; entries = e ∷ es }))

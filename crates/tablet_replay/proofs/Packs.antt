@@ -1,134 +1,125 @@
--- What `pack` reads, and what it makes.
-use Rattle.std.proofs.Common.{◌≡◌, ℕ, ◌+◌, ◌≤◌, ◌||◌, ◌&&◌, not, Bool, true, false, cond, List, [], ◌∷◌, length, drop, Some, slice_get, append-nil, refl, ap, ◌∙◌, arith}
-use Rattle.std.specs.Prelude.{filter}
-use Rattle.std.specs.List.{AllByRecursion, IsDistinct, list_any}
-use Rattle.std.proofs.lemmas.List.{drop_all, drop_more}
-use Rattle.std.proofs.lemmas.Option.{get_or_from_slice_get, slice_get_within}
+-- What `pack` makes of a view into which mutations alone came.
+use Rattle.std.proofs.Common.{◌≡◌, ℕ, ◌+◌, pos, Bool, true, false, cond, List, [], ◌∷◌, ◌++◌, length, Option, Some, None, is_some, option_map, unwrap_or, refl, sym, ap, subst, ◌∙◌}
+use Rattle.std.specs.List.{AllByRecursion, flat_map}
 use Rattle.tablet_model.specs.Cell.{Cell}
-use Rattle.tablet_model.specs.Kept.{kept}
-use Rattle.tablet_model.specs.Markers.{is_unmarked, live, mark, marker_beside}
-use Rattle.tablet_model.specs.Order.{same_column}
-use Rattle.tablet_model.specs.Reading.{AreUnmarkedRead, IsReadBy}
-use Rattle.tablet_model.specs.Rules.{AreStorable, IsStorable}
-use Rattle.tablet_model.specs.Stages.{stages}
-use Rattle.tablet_model.proofs.Sums.{all_weaker}
-use Rattle.stage_laws.proofs.Marked.{all_live, live_plain}
-use Rattle.stage_laws.proofs.Storable.{keeps_first, keeps_live, keeps_stages}
-use Rattle.iter_config.specs.Order.{IsConfig, NoneClashes}
-use Rattle.iter_config.specs.Rules.{in_base, leaves_gap}
+use Rattle.tablet_model.specs.Families.{in_families}
+use Rattle.tablet_model.specs.History.{RowChange, entries_of, history_entries}
+use Rattle.tablet_model.specs.Ingest.{Refusal, ingest}
+use Rattle.tablet_model.specs.Order.{above}
+use Rattle.tablet_model.specs.Rules.{AreStorable, IsStorable, Rules}
+use Rattle.tablet_model.specs.Sorted.{sorted}
+use Rattle.tablet_model.specs.Steps.{StepAnswer, apply, logged, refuse, refused, step, stepped}
+use Rattle.tablet_model.specs.Store.{Store, all_of, cells_of, frozen_of, parts_of}
+use Rattle.tablet_model.specs.Sum.{sum_of}
+use Rattle.tablet_model.proofs.Histories.{history_ascends, history_grows}
+use Rattle.tablet_model.proofs.Merges.{all_sorted}
+use Rattle.tablet_model.proofs.Orders.{above_exact}
+use Rattle.tablet_model.proofs.Sums.{sorted_same}
 use Rattle.iter_config.specs.RulesOf.{rules_of}
-use Rattle.iter_config.specs.Stages.{stages_of}
 use Rattle.iter_config.specs.declared.iter_spec.IterSpec.{IterSpec}
-use Rattle.iter_config.proofs.Prefixes.{filter_same}
-use Rattle.iter_config.proofs.Soundness.{sound}
 use Rattle.compactor.specs.FileValues.{HasShortValue}
+use Rattle.compactor.proofs.Stored.{usage_short}
 use Rattle.iter_stack.specs.Usages.{usage_cells}
-use Rattle.iter_stack.specs.declared.usage.Usage.TheVariants.{Minc, MajcFull}
-use Rattle.compactor.proofs.Stored.{short_value}
-use Rattle.tablet_replay.specs.Packing.{is_minor_alone}
+use Rattle.iter_stack.specs.declared.usage.Usage.TheVariants.{Scan, Pack}
+use Rattle.tablet_view.specs.Snapshot.{IsStanding, Snapshot, entries_in, store_of}
+use Rattle.tablet_steps.specs.ModelSteps.{model_answer_of}
+use Rattle.tablet_steps.specs.declared.answer.Answer.{Answer}
+use Rattle.tablet_steps.specs.declared.answer.Answer.TheVariants as answer
+use Rattle.tablet_core.specs.State.{Answers, CoreState, IsStep, state_of}
+use Rattle.tablet_replay.specs.Packing.{IsInMemory, history_with, packed}
 
--- ---- which iterators are those of compactions
+-- ---- a mutation comes in
 
--- the iterators from a place on
-pub any_at : (specs : List IterSpec) (i : ℕ) (s : IterSpec) (t : Bool) → slice_get specs i ≡ Some s → is_minor_alone s ≡ t
-    → list_any is_minor_alone (drop i specs) ≡ (t || list_any is_minor_alone (drop (i + 1) specs))
-any_at specs i s t at is =
-    ap (list_any is_minor_alone) (drop_more specs i s (slice_get_within specs i s at) ∙ ap (λ x. x ∷ drop (i + 1) specs) (get_or_from_slice_get specs i s s at))
-    ∙ ap (λ b. b || list_any is_minor_alone (drop (i + 1) specs)) is
+-- the store behind a mutation, by why it stays out
+abbrev with_change : Store → RowChange → Option Refusal → Store
+with_change s m (Some r) = s
+with_change s m None = record s { count = s.count + 1; memory = sum_of s.memory (entries_of (pos (s.count + 1)) m) }
 
-pub any_at_end : (specs : List IterSpec) (i : ℕ) → length specs ≤ i → list_any is_minor_alone (drop i specs) ≡ false
-any_at_end specs i h = ap (list_any is_minor_alone) (drop_all i specs h)
-
-none_behind : (s : IterSpec) (ss : List IterSpec) → is_minor_alone s ≡ true → AllByRecursion (λ t. leaves_gap s t ≡ false) ss → AllByRecursion (λ t. t.scopes.minc ≡ in_base t) ss
-none_behind s [] alone h = tt
-none_behind s (t ∷ ts) alone h = (no_major s.scopes.minc s.scopes.majc t.scopes.minc t.scopes.majc alone h.0, none_behind s ts alone h.1)
+stepped_is : (c : Rules) (s : Store) (m : RowChange) (o : Option Refusal) → ingest c s.count m ≡ o → stepped c s (apply m) ≡ with_change s m o
+unfolding stepped step refuse
+stepped_is c s m o h = ap (λ o. cond (is_some (option_map refused o)) s (record s { count = s.count + 1; memory = sum_of s.memory (entries_of (pos (s.count + 1)) m) })) h ∙ go o
   where
-    no_major : (m a n b : Bool) → (m && not a) ≡ true → ((n && not m) || (b && not a)) ≡ false → n ≡ (n || b)
-    no_major m a n b h k = grind arith
+    go : (o : Option Refusal) → cond (is_some (option_map refused o)) s (record s { count = s.count + 1; memory = sum_of s.memory (entries_of (pos (s.count + 1)) m) }) ≡ with_change s m o
+    go (Some r) = refl
+    go None = refl
 
-minor_before : (s : IterSpec) (ss : List IterSpec) → list_any is_minor_alone ss ≡ true → AllByRecursion (λ t. leaves_gap s t ≡ false) ss → s.scopes.minc ≡ true
-minor_before s [] some h = absurd (let k : false ≡ true = some in cc)
-minor_before s (t ∷ ts) some h = go (is_minor_alone t) refl some (λ k. minor_before s ts k h.1)
+-- a step that finds memory is made or refused
+pub taken_in : (k l : CoreState) (m : RowChange) (a : Answer) → (a ≡ answer.NoMemory → ⊥) → Answers (apply m) k l (model_answer_of a) → IsStep (apply m) k l
+taken_in k l m (answer.Applied number) some h = h.1
+taken_in k l m (answer.Frozen count) some h = h.1
+taken_in k l m (answer.Flushed file count) some h = h.1
+taken_in k l m (answer.Started job full) some h = h.1
+taken_in k l m (answer.Finished job file count) some h = h.1
+taken_in k l m (answer.Refused refusal) some h = h.1
+taken_in k l m answer.NoMemory some h = absurd (some refl)
+
+-- the log behind it
+pub log_behind : (k l : CoreState) (m : RowChange) → IsStep (apply m) k l → l.view.log ≡ history_with k.view.config k.view.log m
+unfolding state_of store_of logged
+log_behind k l m s = s.log
+
+-- all entries are in memory still
+pub memory_behind : (k l : CoreState) (m : RowChange) → IsStep (apply m) k l → IsInMemory k.view → IsInMemory l.view
+unfolding state_of store_of logged
+memory_behind k l m s (files, frozen, memory) = go (ingest c (length k.view.log) m) refl
   where
-    here : (m a n b : Bool) → (n && not b) ≡ true → ((n && not m) || (b && not a)) ≡ false → m ≡ true
-    here m a n b h k = grind arith
+    c : Rules
+    c = rules_of k.view.config
 
-    go : (b : Bool) → is_minor_alone t ≡ b → (b || list_any is_minor_alone ts) ≡ true → (list_any is_minor_alone ts ≡ true → s.scopes.minc ≡ true) → s.scopes.minc ≡ true
-    go true e k later = here s.scopes.minc s.scopes.majc t.scopes.minc t.scopes.majc e h.0
-    go false e k later = later k
+    go : (o : Option Refusal) → ingest c (length k.view.log) m ≡ o → IsInMemory l.view
+    go o h =
+        let is = s.store ∙ stepped_is c (state_of k) m o h in
+        (ap (λ x. x.files) is ∙ kept_files o ∙ files, ap (λ x. x.frozen) is ∙ kept_frozen o ∙ frozen, ap (λ x. x.memory) is ∙ grown o h)
+      where
+        kept_files : (o : Option Refusal) → (with_change (state_of k) m o).files ≡ k.view.files
+        kept_files (Some r) = refl
+        kept_files None = refl
 
--- where an iterator runs in minor compactions alone, these run all iterators of compactions
-minor_is_base : (specs : List IterSpec) → NoneClashes leaves_gap specs → list_any is_minor_alone specs ≡ true → AllByRecursion (λ s. s.scopes.minc ≡ in_base s) specs
-unfolding IsDistinct
-minor_is_base [] clash some = tt
-minor_is_base (s ∷ ss) clash some = go (is_minor_alone s) refl some (minor_is_base ss clash.1)
-  where
-    all_minor : (m a : Bool) → m ≡ true → m ≡ (m || a)
-    all_minor m a h = grind arith
+        kept_frozen : (o : Option Refusal) → (with_change (state_of k) m o).frozen ≡ k.view.frozen
+        kept_frozen (Some r) = refl
+        kept_frozen None = refl
 
-    is_minor : (m a : Bool) → (m && not a) ≡ true → m ≡ true
-    is_minor m a h = grind arith
+        log_is : (o : Option Refusal) → ingest c (length k.view.log) m ≡ o → l.view.log ≡ cond (is_some o) k.view.log (k.view.log ++ m ∷ [])
+        log_is o h = s.log ∙ ap (λ o. cond (is_some o) k.view.log (k.view.log ++ m ∷ [])) h
 
-    go : (b : Bool) → is_minor_alone s ≡ b → (b || list_any is_minor_alone ss) ≡ true → (list_any is_minor_alone ss ≡ true → AllByRecursion (λ t. t.scopes.minc ≡ in_base t) ss)
-        → AllByRecursion (λ t. t.scopes.minc ≡ in_base t) (s ∷ ss)
-    go true e k rest = (all_minor s.scopes.minc s.scopes.majc (is_minor s.scopes.minc s.scopes.majc e), none_behind s ss e clash.0)
-    go false e k rest = (all_minor s.scopes.minc s.scopes.majc (minor_before s ss k clash.0), rest k)
+        grown : (o : Option Refusal) → ingest c (length k.view.log) m ≡ o → (with_change (state_of k) m o).memory ≡ history_entries l.view.log
+        grown (Some r) h = memory ∙ ap history_entries (sym (log_is (Some r) h))
+        grown None h =
+            ap (λ l. sum_of l (entries_of (pos (length k.view.log + 1)) m)) memory
+            ∙ sym (history_grows k.view.log m) ∙ ap history_entries (sym (log_is None h))
 
--- where none does, major ones do
-major_is_base : (specs : List IterSpec) → list_any is_minor_alone specs ≡ false → AllByRecursion (λ s. s.scopes.majc ≡ in_base s) specs
-major_is_base [] none = tt
-major_is_base (s ∷ ss) none = (here s.scopes.minc s.scopes.majc (list_any is_minor_alone ss) none, major_is_base ss (later (is_minor_alone s) (list_any is_minor_alone ss) none))
-  where
-    here : (m a o : Bool) → ((m && not a) || o) ≡ false → a ≡ (m || a)
-    here m a o h = grind arith
+-- no mutations have no entries
+pub none_in : [] ≡ history_entries []
+unfolding history_entries sorted
+none_in = refl
 
-    later : (a o : Bool) → (a || o) ≡ false → o ≡ false
-    later a o h = grind arith
+-- ---- the file
 
--- ---- what a compaction makes
+-- the entries of a view that has them in memory
+pub entries_are : (v : Snapshot) → IsInMemory v → entries_in v ≡ history_entries v.log
+unfolding all_of parts_of cells_of frozen_of store_of
+entries_are v (files, frozen, memory) =
+    (λ i. sorted above (flat_map (λ f. f.cells) (files i) ++ (unwrap_or (frozen i) [] ++ memory i)))
+    ∙ sorted_same above above_exact (history_entries v.log) (history_ascends v.log)
 
-unmarked_beside : (e : Cell) (before : List Cell) → AllByRecursion (λ m. m.key.deleted ≡ false) before → list_any (marker_beside e) before ≡ false
-unfolding marker_beside
-unmarked_beside e [] h = refl
-unmarked_beside e (m ∷ ms) h = none m.key.deleted (same_column e m) (list_any (marker_beside e) ms) h.0 (unmarked_beside e ms h.1)
-  where
-    none : (d s o : Bool) → d ≡ false → o ≡ false → ((d && s) || o) ≡ false
-    none d s o h k = grind arith
+all_in : (list : List Cell) → in_families None list ≡ list
+all_in [] = refl
+all_in (e ∷ es) = ap (λ l. e ∷ l) (all_in es)
 
--- without markers nothing is dropped
-unmarked_stay : (before list : List Cell) → AllByRecursion (λ m. m.key.deleted ≡ false) before → AllByRecursion (λ m. m.key.deleted ≡ false) list → kept is_unmarked before list ≡ list
-unfolding kept is_unmarked
-unmarked_stay before [] b l = refl
-unmarked_stay before (e ∷ es) b l =
-    ap (λ n. cond (not n) (e ∷ kept is_unmarked (e ∷ before) es) (kept is_unmarked (e ∷ before) es)) (unmarked_beside e before b)
-    ∙ ap (λ t. e ∷ t) (unmarked_stay (e ∷ before) es (l.0, b) l.1)
+-- what a source over it has
+pub source_has : (v : Snapshot) → IsInMemory v → in_families None (entries_in v) ≡ history_entries v.log
+source_has v m = all_in (entries_in v) ∙ entries_are v m
 
-mark_of_live : (list : List Cell) → mark (live list) ≡ live list
-unfolding mark
-mark_of_live list = unmarked_stay [] (live list) tt (live_plain list)
+storable : (v : Snapshot) → IsStanding v → AreStorable (rules_of v.config) (entries_in v)
+unfolding all_of store_of
+storable v s = all_sorted above above_exact (IsStorable (rules_of v.config)) (parts_of (store_of v 0 [])) s.parts.entries
 
--- a minor compaction of the live entries runs all iterators of compactions, where they are the more
-pub minor_packed : (specs : List IterSpec) → IsConfig specs → list_any is_minor_alone specs ≡ true → (list : List Cell)
-    → usage_cells specs Minc (live list) ≡ stages (rules_of specs).base (live list)
-unfolding usage_cells rules_of
-minor_packed specs config some list =
-    ap (stages (stages_of (filter (λ s. s.scopes.minc) specs))) (mark_of_live list)
-    ∙ ap (λ ss. stages (stages_of ss) (live list)) (filter_same (λ s. s.scopes.minc) in_base specs (minor_is_base specs config.prefixes some))
+-- a file takes what is made of it
+pub packed_short : (v : Snapshot) (list : List Cell) → IsStanding v → list ≡ in_families None (entries_in v) → AllByRecursion HasShortValue (usage_cells v.config Pack list)
+packed_short v list s h =
+    subst (λ l. AllByRecursion HasShortValue (usage_cells v.config Pack l)) (sym (h ∙ all_in (entries_in v)))
+    (usage_short v.config s.config Pack (λ e. absurd (let no : Pack ≡ Scan = e in cc)) (entries_in v) (storable v s))
 
-pub major_packed : (specs : List IterSpec) → list_any is_minor_alone specs ≡ false → (list : List Cell)
-    → usage_cells specs MajcFull list ≡ stages (rules_of specs).base (live list)
-unfolding usage_cells rules_of
-major_packed specs none list = ap (λ ss. stages (stages_of ss) (live list)) (filter_same (λ s. s.scopes.majc) in_base specs (major_is_base specs none))
-
--- ---- what it reads, and what a file takes
-
--- all that the iterators of compactions make of a history's live entries fits into a file
-pub packed_short : (specs : List IterSpec) → IsConfig specs → (list : List Cell) → AreStorable (rules_of specs) list
-    → AllByRecursion HasShortValue (stages (rules_of specs).base (live list))
-packed_short specs config list h =
-    let rules = rules_of specs in
-    all_weaker (IsStorable rules) HasShortValue (short_value rules) (stages rules.base (live list))
-    (keeps_stages rules rules.base (keeps_first rules (sound specs config) rules.base ([], append-nil rules.base)) (live list) (keeps_live rules list h))
-
-pub live_unmarked_read : (specs : List IterSpec) (list : List Cell) → AreUnmarkedRead (stages_of specs) list → AreUnmarkedRead (stages_of specs) (live list)
-live_unmarked_read specs list h = all_live (λ e. e.key.deleted ≡ false → AllByRecursion (IsReadBy e) (stages_of specs)) list h
+pub packed_is : (v : Snapshot) (list : List Cell) → IsInMemory v → list ≡ in_families None (entries_in v) → usage_cells v.config Pack list ≡ packed v.config v.log
+unfolding usage_cells
+packed_is v list m h = ap (usage_cells v.config Pack) (h ∙ source_has v m)

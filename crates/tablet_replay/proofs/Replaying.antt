@@ -1,11 +1,15 @@
 -- What the program keeps, step by step, and what the text says of it.
 use Rattle.std.proofs.Common.{◌≡◌, ◌==◌, ℕ, Bool, cond, List, [], ◌∷◌, ◌++◌, map, length, Option, Some, None, slice_get, refl, sym, ap, ◌∙◌, subst}
-use Rattle.std.specs.Prelude.{flat_map, is_some, position, remove, slice_set}
+use Rattle.std.specs.Prelude.{flat_map, is_some, position, remove, slice_set, IsSomeAnd, OnOk, Result, Ok, Err}
 use Rattle.std.proofs.lemmas.List.{map-append}
 use Rattle.tablet_model.specs.Cuts.{Span}
 use Rattle.tablet_model.specs.Places.{Start, after}
-use Rattle.tablet_model.specs.Steps.{Event, StepAnswer}
-use Rattle.tablet_model.specs.Store.{File, RunningJob}
+use Rattle.tablet_model.specs.Ingest.{ingest}
+use Rattle.tablet_model.specs.History.{RowChange}
+use Rattle.tablet_model.specs.Steps.{Event, StepAnswer, apply, freeze, flush, compact, compact_all, finish, logged}
+use Rattle.tablet_model.specs.Store.{File, RunningJob, Store}
+use Rattle.iter_config.specs.RulesOf.{rules_of}
+use Rattle.iter_config.specs.declared.iter_spec.IterSpec.{IterSpec}
 use Rattle.compactor.specs.Jobs.{job_of}
 use Rattle.compactor.specs.declared.job_state.JobState.{JobState}
 use Rattle.scan_session.specs.Sessions.{SessionState, left_of}
@@ -15,11 +19,11 @@ use Rattle.script_text.specs.SessionAnswers.{opened_line}
 use Rattle.script_text.specs.declared.line.SessionStep.TheVariants as step
 use Rattle.tablet_steps.specs.declared.refusal.LineRefusal.TheVariants.{NoSession, SessionOpen}
 use Rattle.script_text.specs.StatusAnswers.{file_line, frozen_line, job_line, log_line, memory_line}
-use Rattle.tablet_core.specs.State.{Answers, CoreState, state_of}
+use Rattle.tablet_core.specs.State.{Answers, CoreState, IsStep, state_of}
 use Rattle.tablet_core.specs.Status.{IsStatusOf, count_of}
 use Rattle.tablet_core.specs.declared.status.StoreStatus.{StoreStatus}
 use Rattle.tablet_view.specs.Snapshot.{store_of}
-use Rattle.tablet_replay.specs.Replay.{Replayed, after_session_step, if_open, session_text, opened_scan, where_open}
+use Rattle.tablet_replay.specs.Replay.{Replayed, after_session_step, after_step, if_open, log_behind, session_text, opened_scan, where_open}
 use Rattle.tablet_replay.specs.Sessions.{OpenScan, find_session, place_of, scanned, with_session, without_session}
 use Rattle.tablet_replay.specs.StatusText.{count_lines, state_lines, status_lines}
 use Rattle.tablet_replay.specs.Status.{file_lines, job_lines, status_text}
@@ -31,6 +35,37 @@ use Rattle.tablet_replay.proofs.OpenSessions.{all_pinned, none_open, one_open, r
 pub pinned_step : (e : Event) (k l : CoreState) (a : Option StepAnswer) → Answers e k l a → (ss : List OpenSession) → ArePinned k.view ss → ArePinned l.view ss
 pinned_step e k l None h ss all = subst (λ (m : CoreState). ArePinned m.view ss) (sym h.1) all
 pinned_step e k l (Some a) h ss all = all_pinned k.view l.view h.1.extends ss all
+
+-- the history that the store's count gives is that of its own length
+pub logs_are : (config : List IterSpec) (s : Store) (log : List RowChange) (e : Event) → s.count ≡ length log → logged (rules_of config) s log e ≡ log_behind config log e
+unfolding logged log_behind
+logs_are config s log (apply m) h = ap (λ n. cond (is_some (ingest (rules_of config) n m)) log (log ++ m ∷ [])) h
+logs_are config s log freeze h = refl
+logs_are config s log flush h = refl
+logs_are config s log (compact j ids) h = refl
+logs_are config s log (compact_all j) h = refl
+logs_are config s log (finish j) h = refl
+
+-- so a step of the core is one of the text
+pub step_replayed : (e : Event) (k l : CoreState) (ss : List OpenSession) → IsStep e k l
+    → replayed_by (record { core = l; sessions = ss }) ≡ after_step (replayed_by (record { core = k; sessions = ss })) e
+unfolding state_of store_of
+step_replayed e k l ss h = λ i. record {
+  config = h.config i;
+  log = (h.log ∙ logs_are k.view.config (state_of k) k.view.log e refl) i;
+  store = h.store i;
+  sessions = map open_scan ss;
+}
+
+-- a step with an answer is made
+pub step_made : (e : Event) (k l : CoreState) (o : Option StepAnswer) (Q : StepAnswer → Type 0) → IsSomeAnd o Q → Answers e k l o → IsStep e k l
+step_made e k l None Q some a = absurd some
+step_made e k l (Some x) Q some a = a.1
+
+-- what follows where there was memory
+pub where_ok : {X Y P Q : Type 0} (r : Result X Y) → (P → Q) → OnOk r P → OnOk r Q
+where_ok (Ok x) f h = f h
+where_ok (Err y) f h = tt
 
 -- ---- the status
 

@@ -1,4 +1,3 @@
-pub mod Bounds
 pub mod Refusals
 pub mod Sessions
 pub mod Status
@@ -7,5 +6,6 @@ pub mod Replies
 pub mod SessionSteps
 pub mod TabletParts
 pub mod StatusText
+pub mod Headline
 pub mod Packing
 pub mod Showing

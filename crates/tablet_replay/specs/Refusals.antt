@@ -3,7 +3,7 @@ use Rattle.std.specs.Prelude.{ℕ, List, ◌++◌, codes}
 use Rattle.std.specs.Fmt.{decimal}
 use Rattle.iter_config.specs.Faults.{Fault}
 use Rattle.iter_config.specs.declared.error.Rule.{Rule}
-use Rattle.iter_config.specs.declared.error.Rule.TheVariants.{Toml, Field, Name, Priority, NoScan, NotPrefix, Order, Overlap, FullUnderVersions}
+use Rattle.iter_config.specs.declared.error.Rule.TheVariants.{Toml, Field, Name, Priority, NoScan, NotPrefix, ScanOnly, Order, Overlap, FullUnderVersions}
 use Rattle.sorted_file.specs.declared.fault.Fault as image
 use Rattle.sorted_file.specs.declared.fault.ImageCause.{ImageCause}
 use Rattle.sorted_file.specs.declared.fault.ImageCause.TheVariants as cause
@@ -16,6 +16,7 @@ rule_word Name = codes "name"
 rule_word Priority = codes "priority"
 rule_word NoScan = codes "K2"
 rule_word NotPrefix = codes "K3"
+rule_word ScanOnly = codes "K4"
 rule_word Order = codes "K5"
 rule_word Overlap = codes "K6"
 rule_word FullUnderVersions = codes "K7"

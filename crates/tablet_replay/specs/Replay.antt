@@ -5,7 +5,8 @@ use Rattle.std.specs.Prelude.{ℕ, Bool, true, false, cond, List, [], ◌∷◌,
 use Rattle.tablet_model.specs.Cuts.{Span}
 use Rattle.tablet_model.specs.History.{RowChange}
 use Rattle.tablet_model.specs.Places.{Start}
-use Rattle.tablet_model.specs.Steps.{Event, answered, stepped, logged}
+use Rattle.tablet_model.specs.Ingest.{ingest}
+use Rattle.tablet_model.specs.Steps.{Event, apply, answered, stepped}
 use Rattle.tablet_model.specs.Store.{Store, empty_store}
 use Rattle.iter_config.specs.Document.{config_of}
 use Rattle.iter_config.specs.Faults.{Fault}
@@ -42,9 +43,14 @@ replayed_none config = record { config = config; log = []; store = empty_store; 
 abbrev pub step_answer_text : Replayed → Event → List ℕ
 step_answer_text r e = answer_line (answered (rules_of r.config) r.store e)
 
+-- the history behind a step of the store: a mutation that comes in behind it, by its own length, stands at its end
+unfoldable pub log_behind : List IterSpec → List RowChange → Event → List RowChange
+log_behind config log (apply m) = cond (is_some (ingest (rules_of config) (length log) m)) log (log ++ m ∷ [])
+log_behind config log _ = log
+
 -- what is there behind a step of the store
 abbrev pub after_step : Replayed → Event → Replayed
-after_step r e = record r { log = logged (rules_of r.config) r.store r.log e; store = stepped (rules_of r.config) r.store e }
+after_step r e = record r { log = log_behind r.config r.log e; store = stepped (rules_of r.config) r.store e }
 
 -- a session that is opened now
 abbrev pub opened_scan : Replayed → ℕ → Span → Option (List (List ℕ)) → Bool → OpenScan

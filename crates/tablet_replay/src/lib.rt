@@ -1,7 +1,7 @@
 //! What the commands write for an input: the answers to a script, the image that it packs, and the entries of an image.
 #![tactic(auto)]
 
-mod history;
+mod headline;
 mod outcome;
 mod packing;
 mod refusal;
@@ -14,5 +14,6 @@ mod showing;
 mod status;
 mod tablet;
 
+pub use headline::{scans_are_whole, sessions_walk, steps_change_no_answer};
 pub use outcome::{Outcome, ReplyError};
 pub use reply::{pack_to, replay_to, show_to};

@@ -1,99 +1,81 @@
 //! The image that `pack` writes.
-ghost use Rattle.std.specs.Prelude.{◌≡◌, [], map, IfOk, OnOk};
-ghost use Rattle.std.specs.List.{list_any};
-ghost use Rattle.tablet_model.specs.Ingest.{IsHistory};
+ghost use Rattle.std.specs.Prelude.{◌≡◌, ◌+◌, ◌<◌, ◌≤◌, ◌^◌, [], IfOk, OnOk};
 ghost use Rattle.cell_key.specs.Mutations.{row_change_of};
-ghost use Rattle.iter_config.specs.Order.{IsConfig};
-ghost use Rattle.iter_config.specs.RulesOf.{rules_of};
 ghost use Rattle.script_text.specs.Grammar.{line_of};
 ghost use Rattle.script_text.specs.Lines.{lines_of};
-ghost use Rattle.tablet_replay.specs.Packing.{history_after, history_behind, is_minor_alone, packed};
+ghost use Rattle.tablet_view.specs.Snapshot.{IsStanding};
+ghost use Rattle.tablet_replay.specs.Packing.{IsInMemory, history_after, history_behind, history_with, packed};
 
-use crate::history::History;
-use crate::scan::source_over;
-use cell_key::NoMemory;
+use cell_key::{Families, Mutation, NoMemory};
 use compactor::compact;
-use delete_iter::live_iter;
-use iter_config::{Config, IterSpec};
+use iter_config::Config;
 use iter_stack::Usage;
 use script_text::{Line, LineError, Lines, parse_line};
 use sorted_file::SortedFile;
 use std::alloc::Global;
-use tablet_core::Event;
+use std::sync::Arc;
+use tablet_core::{Answer, Core, Event};
+use tablet_view::View;
 
 /// The file of what the iterators of compactions make of the mutations of a script.
-pub fn file_of_script(alloc: Global, config: &Config, script: &[u8]) -> Result<SortedFile, NoMemory>
-    ensures { IfOk result (λ file. file ≡ packed config.now (history_behind config.now [] (lines_of script.now))) }
+pub fn file_of_script(alloc: Global, config: Config, script: &[u8]) -> Result<SortedFile, NoMemory>
+    ensures { IfOk result (λ file. file ≡ packed config (history_behind config [] (lines_of script.now))) }
 {
-    let history = history_of(alloc, config, script)?;
-    packed(alloc, config, &history)
+    let core = loaded(alloc, config, script)?;
+    packed(alloc, core.view())
 }
 
-/// The mutations of a script that come in.
-fn history_of(alloc: Global, config: &Config, script: &[u8]) -> Result<History, NoMemory>
-    ensures history { IfOk result (λ history. history ≡ history_behind config.now [] (lines_of script.now)) }
-    ensures lawful { IfOk result (λ history. IsHistory (rules_of config.now) (map row_change_of history)) }
+/// A core into which the mutations of a script came.
+fn loaded(alloc: Global, config: Config, script: &[u8]) -> Result<Core, NoMemory>
+    ensures config { IfOk result (λ core. core.view.config ≡ config) }
+    ensures log { IfOk result (λ core. core.view.log ≡ history_behind config [] (lines_of script.now)) }
+    ensures memory { IfOk result (λ core. IsInMemory core.view) }
 {
-    let mut history = History::new(alloc);
+    let mut core = Core::open(alloc, Arc::new(alloc, config)?)?;
     for line in Lines::new(script) {
-        take_line(alloc, config, &mut history, line)?;
+        take_line(alloc, &mut core, line)?;
     }
-    Ok(history)
+    Ok(core)
 }
 
 /// Takes the mutation of a line in, if it is one that comes in.
 #[tactic(auto, unfolding(crate::specs::Packing::history_after))]
-fn take_line(
-    alloc: Global,
-    config: &Config,
-    history: &mut History,
-    line: &[u8],
-) -> Result<(), NoMemory>
-    requires { IsHistory (rules_of config.now) (map row_change_of history.old) }
-    ensures history { OnOk result (history.new ≡ history_after config.now history.old (line_of line.now)) }
-    ensures lawful { OnOk result (IsHistory (rules_of config.now) (map row_change_of history.new)) }
+fn take_line(alloc: Global, core: &mut Core, line: &[u8]) -> Result<(), NoMemory>
+    requires version { core.old.view.version < 2 ^ 63 }
+    requires memory { IsInMemory core.old.view }
+    ensures config { OnOk result (core.new.view.config ≡ core.old.view.config) }
+    ensures log { OnOk result (core.new.view.log ≡ history_after core.old.view.config core.old.view.log (line_of line.now)) }
+    ensures memory { OnOk result (IsInMemory core.new.view) }
+    ensures slow { OnOk result (core.new.view.version ≤ core.old.view.version + 1) }
 {
     match parse_line(alloc, line) {
         Err(LineError::NoMemory) => Err(NoMemory),
-        Ok(Line::Step(Event::Apply(mutation))) => {
-            history.apply(config, mutation)?;
-            Ok(())
-        }
+        Ok(Line::Step(Event::Apply(mutation))) => take_mutation(alloc, core, mutation),
         _ => Ok(()),
     }
 }
 
-/// Whether an iterator runs in minor compactions and not in major ones.
-fn is_minor_alone(spec: &IterSpec) -> bool
-    ensures { result ≡ is_minor_alone spec.now }
+/// Takes a mutation in, if it comes in.
+fn take_mutation(alloc: Global, core: &mut Core, mutation: Mutation) -> Result<(), NoMemory>
+    requires version { core.old.view.version < 2 ^ 63 }
+    requires memory { IsInMemory core.old.view }
+    ensures config { OnOk result (core.new.view.config ≡ core.old.view.config) }
+    ensures log { OnOk result (core.new.view.log ≡ history_with core.old.view.config core.old.view.log (row_change_of mutation)) }
+    ensures memory { OnOk result (IsInMemory core.new.view) }
+    ensures slow { OnOk result (core.new.view.version ≤ core.old.view.version + 1) }
 {
-    spec.scopes.minc && !spec.scopes.majc
+    match core.step(alloc, &Event::Apply(mutation)) {
+        Answer::NoMemory => Err(NoMemory),
+        _ => Ok(()),
+    }
 }
 
-/// Whether there is such an iterator.
-fn has_minor_alone(config: &Config) -> bool
-    ensures any { result ≡ list_any is_minor_alone config.now }
-    ensures rules { IsConfig config.now }
+/// The file of what all iterators of compactions make of the live entries of a view that has them in memory.
+fn packed(alloc: Global, view: &View) -> Result<SortedFile, NoMemory>
+    requires stands { IsStanding view.now }
+    requires memory { IsInMemory view.now }
+    ensures { IfOk result (λ file. file ≡ packed view.now.config view.now.log) }
 {
-    for i in 0..config.count() {
-        if is_minor_alone(config.iterator(i)) {
-            return true;
-        }
-    }
-    false
-}
-
-/// The file of what the iterators of compactions make of a history's live entries. These are the iterators of minor compactions or
-/// those of major ones, whichever are more.
-fn packed(alloc: Global, config: &Config, history: &History) -> Result<SortedFile, NoMemory>
-    requires { IsHistory (rules_of config.now) (map row_change_of history.now) }
-    ensures { IfOk result (λ file. file ≡ packed config.now history.now) }
-{
-    let entries = history.entries(alloc)?;
-    let source = source_over(alloc, entries)?;
-    if has_minor_alone(config) {
-        let live = live_iter(alloc, source)?;
-        return compact(alloc, config, Usage::Minc, live);
-    }
-    compact(alloc, config, Usage::MajcFull, source)
+    let source = view.source(alloc, &Families::all())?;
+    compact(alloc, view.config(), Usage::Pack, source)
 }

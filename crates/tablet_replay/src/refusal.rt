@@ -43,6 +43,7 @@ fn rule_word(rule: Rule) -> &'static [u8]
         Rule::Priority => b"priority",
         Rule::NoScan => b"K2",
         Rule::NotPrefix => b"K3",
+        Rule::ScanOnly => b"K4",
         Rule::Order => b"K5",
         Rule::Overlap => b"K6",
         Rule::FullUnderVersions => b"K7",

@@ -73,7 +73,7 @@ pub fn pack_to<O: Sink>(alloc: Global, input: &[u8], output: &mut O) -> Result<O
     let (config, script) = split_input(input);
     match read_config(alloc, config) {
         Ok(config) => {
-            let file = file_of_script(alloc, &config, script)?;
+            let file = file_of_script(alloc, config, script)?;
             write_bytes(file.bytes(), Outcome::Answered, output)
         }
         Err(ConfigError::Refused { rule, at }) => {

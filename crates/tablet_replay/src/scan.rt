@@ -1,38 +1,71 @@
 //! What scans and fetches found, as it is written: line by line into a text, which is sent where it is long.
-ghost use Rattle.std.specs.Prelude.{◌≡◌, ◌++◌, IfOk};
-ghost use Rattle.tablet_model.specs.Order.{above};
-ghost use Rattle.tablet_model.specs.Sorted.{Ascends};
+ghost use Rattle.std.specs.Prelude.{◌++◌};
+ghost use Rattle.tablet_model.specs.Cuts.{within};
+ghost use Rattle.tablet_model.specs.Reading.{AreUnmarkedRead};
+ghost use Rattle.cell_key.specs.Ranges.{span_of};
 ghost use Rattle.cell_key.specs.Views.{cell_of};
-ghost use Rattle.iter_contract.specs.VecRest.{vec_cells};
+ghost use Rattle.iter_config.specs.Stages.{stages_of};
+ghost use Rattle.iter_stack.specs.Usages.{usage_cells};
+ghost use Rattle.iter_stack.specs.declared.usage.Usage.TheVariants as usage;
 ghost use Rattle.script_text.specs.Answers.{entry_line, entry_lines, scan_text};
 ghost use Rattle.script_text.specs.SessionAnswers.{rest_line};
 ghost use Rattle.tablet_replay.specs.Replies.{HasCause, Sends};
 ghost use Rattle.tablet_replay.specs.StatusText.{piece_text, pieces_text};
 
 use crate::outcome::ReplyError;
-use cell_key::{ByteText, Entries, EntryRef, NoMemory};
-use iter_contract::{SortedSource, VecSource};
+use cell_key::{ByteText, Entries, EntryRef, NoMemory, Range};
+use iter_config::Config;
+use iter_contract::SortedSource;
+use iter_stack::{Usage, build};
 use scan_session::{Fetched, Piece};
 use script_text::{append_at, append_end, append_entry, append_rest};
 use std::alloc::Global;
-use std::sync::Arc;
 use tablet_io::{Sink, send_full};
 
-/// A source over entries that are in order.
-pub fn source_over(alloc: Global, entries: Entries) -> Result<VecSource, NoMemory>
-    requires { Ascends above entries }
-    ensures { IfOk result (λ source. vec_cells source ≡ entries) }
+/// Sends the text of a scan of a leaf in a range, over so many mutations: what the iterators of a configuration for scans show.
+pub fn send_scan<S: SortedSource, O: Sink>(
+    alloc: Global,
+    config: &Config,
+    leaf: S,
+    range: &Range<'_>,
+    mutations: u64,
+    text: &mut ByteText,
+    output: &mut O,
+) -> Result<(), ReplyError>
+    requires valid { S.valid leaf }
+    requires read { AreUnmarkedRead (stages_of config.now) (S.cells leaf) }
+    ensures bytes { Sends (text.old ++ scan_text mutations (within (span_of range.now) (usage_cells config.now usage.Scan (S.cells leaf))))
+        (O.taken output.old) (O.taken output.new) text.new result }
+    ensures cause { HasCause (O.faults output.old) (O.faults output.new) result }
 {
-    let entries = Arc::new(alloc, entries)?;
-    Ok(VecSource::new(entries))
+    let stack = build(alloc, config, Usage::Scan, leaf)?;
+    send_found(alloc, stack, range, mutations, text, output)
+}
+
+/// Sends the text of a scan that finds what a source has in a range, over so many mutations.
+fn send_found<S: SortedSource, O: Sink>(
+    alloc: Global,
+    source: S,
+    range: &Range<'_>,
+    mutations: u64,
+    text: &mut ByteText,
+    output: &mut O,
+) -> Result<(), ReplyError>
+    requires { S.valid source }
+    ensures bytes { Sends (text.old ++ scan_text mutations (within (span_of range.now) (S.cells source))) (O.taken output.old) (O.taken output.new) text.new result }
+    ensures cause { HasCause (O.faults output.old) (O.faults output.new) result }
+{
+    let mut source = source;
+    source.seek(range)?;
+    send_rest(alloc, &mut source, mutations, text, output)
 }
 
 /// Sends the text of a scan that finds what a source has left, over so many mutations.
 #[tactic(auto, unfolding(script_text::specs::Answers::found_text))]
-pub fn send_found<S: SortedSource, O: Sink>(
+fn send_rest<S: SortedSource, O: Sink>(
     alloc: Global,
-    mutations: u64,
     source: &mut S,
+    mutations: u64,
     text: &mut ByteText,
     output: &mut O,
 ) -> Result<(), ReplyError>

@@ -26,8 +26,9 @@ pub fn answer_script<O: Sink>(
     ensures text { Replies (script_answers (replayed_none config) (lines_of script.now)) (O.taken output.old) (O.taken output.new) result }
     ensures cause { HasCause (O.faults output.old) (O.faults output.new) result }
 {
-    let mut text = ByteText::new(alloc);
     let mut tablet = Tablet::open(alloc, config)?;
+    // The first to be dropped: an allocator is slow to take a large block back behind as many small ones as a tablet has.
+    let mut text = ByteText::new(alloc);
     for line in Lines::new(script) {
         send_answer(alloc, &mut tablet, line, &mut text, output)?;
     }

@@ -10,7 +10,7 @@ ghost use Rattle.tablet_replay.specs.Replies.{HasCause, Sends};
 ghost use Rattle.tablet_replay.specs.TabletParts.{replayed_by};
 
 use crate::outcome::ReplyError;
-use crate::scan::{send_fetched, send_found};
+use crate::scan::{send_fetched, send_scan};
 use crate::sessions::{OpenSession, Sessions};
 use crate::status::append_status;
 use cell_key::{ByteText, Families, NoMemory, RangeBuf};
@@ -112,7 +112,7 @@ impl Tablet {
         append_status(alloc, text, &status)
     }
 
-    /// Sends what a scan finds: a session that is opened, read whole and closed.
+    /// Sends what a scan finds: all that a session would give that is opened now.
     pub fn scan<O: Sink>(
         &self,
         alloc: Global,
@@ -125,9 +125,17 @@ impl Tablet {
             (scanned (replayed_by self.now).config range.now families.now (replayed_by self.now).log)) (O.taken output.old) (O.taken output.new) text.new result }
         ensures cause { HasCause (O.faults output.old) (O.faults output.new) result }
     {
-        let session = session_on(&self.core, alloc, range, families, false)?;
-        let mut rest = session.remaining(alloc)?;
-        send_found(alloc, session.n(), &mut rest, text, output)
+        let view = self.core.view();
+        let source = view.source(alloc, families)?;
+        send_scan(
+            alloc,
+            view.config(),
+            source,
+            &range.range(),
+            view.mutations(),
+            text,
+            output,
+        )
     }
 
     /// Takes a step of a session that asks for no entries, and appends its answer.
