@@ -4,7 +4,7 @@ ghost use Rattle.std.specs.Arc.{arc_value};
 ghost use Rattle.filters.specs.FilterStages.{test_of};
 ghost use Rattle.iter_config.specs.Predicates.{keeps};
 
-use crate::testing::holds;
+use crate::matching::holds;
 use cell_key::{EntryRef, NoMemory};
 use iter_config::Predicate;
 use stages::Stage;

@@ -3,8 +3,8 @@
 
 mod filter_stage;
 mod iter;
-mod testing;
+mod matching;
 
 pub use filter_stage::FilterStage;
 pub use iter::{FilterIter, filter_iter};
-pub use testing::holds;
+pub use matching::holds;

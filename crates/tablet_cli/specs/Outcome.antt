@@ -2,8 +2,8 @@
 use Rattle.std.specs.Prelude.{◌≡◌, ◌⊎◌, ℕ, Bool, true, false, ◌≤◌, ◌<◌, Option, Some, None, List, [], length, IfSome, ⊤}
 use Rattle.tablet_io.specs.Causes.{Rose}
 use Rattle.tablet_io.specs.Streams.{Took, IsFrontTaken, IsTaken}
-use Rattle.tablet_io.specs.declared.status.Status.{Status}
-use Rattle.tablet_io.specs.declared.status.Status.TheVariants.{Done, Usage, BadConfig, ReadFault, WriteFault, NoMemory, TooLong, BadImage}
+use Rattle.tablet_cli.specs.declared.status.Status.{Status}
+use Rattle.tablet_cli.specs.declared.status.Status.TheVariants.{Done, Usage, BadConfig, ReadFault, WriteFault, NoMemory, TooLong, BadImage}
 use Rattle.tablet_replay.specs.Packing.{pack_text}
 use Rattle.tablet_replay.specs.Replay.{is_refused, replay_text}
 use Rattle.tablet_replay.specs.Showing.{is_no_image, show_text}

@@ -6,10 +6,11 @@ ghost use Rattle.tablet_cli.specs.declared.command_word.Command.TheVariants.{Rep
 
 use crate::command_word::{Command, command_of};
 use crate::reply::{end_of, reply_to};
+use crate::status::Status;
 use std::alloc::Global;
 use std::sync::Wait;
 use std::thread::Threads;
-use tablet_io::{Gate, ReadError, Sink, Source, Status, WriteFault, read_all, write_all};
+use tablet_io::{Gate, ReadError, Sink, Source, WriteFault, read_all, write_all};
 use tablet_replay::ReplyError;
 
 /// How many bytes an input has at the most.

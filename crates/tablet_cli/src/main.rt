@@ -4,14 +4,16 @@
 mod command;
 mod command_word;
 mod reply;
+mod status;
 #[cfg(test)]
 mod tests;
 
 use crate::command::run;
+use crate::status::Status;
 use std::io::ErrorKind;
 use std::process::ExitCode;
 use std::{env, io};
-use tablet_io::{OpenGate, Status, StdSink, StdSource};
+use tablet_io::{OpenGate, StdSink, StdSource};
 
 /// The process ends so where the system gave no words for another cause than memory.
 const NO_WORDS: u8 = 9;

@@ -4,9 +4,10 @@ ghost use Rattle.tablet_replay.specs.Replies.{HasCause, Replies, is_refusal};
 ghost use Rattle.tablet_cli.specs.Outcome.{command_text, end_of, refuses};
 
 use crate::command_word::Command;
+use crate::status::Status;
 use cell_key::ByteText;
 use std::alloc::Global;
-use tablet_io::{Sink, Status};
+use tablet_io::Sink;
 use tablet_replay::{Outcome, ReplyError, pack_to, replay_to, show_to};
 
 /// Writes the reply of a command to an input.

@@ -2,12 +2,13 @@
 ghost use Rattle.std.specs.Prelude.{◌≤◌};
 
 use crate::command::{MAX_INPUT, replay, run};
+use crate::status::Status;
 use cell_key::{ByteText, NoMemory};
 use std::alloc::Global;
 use std::string::String;
 use std::sync::Wait;
 use std::thread::Threads;
-use tablet_io::{Calls, MemSink, MemSource, OpenGate, Status};
+use tablet_io::{Calls, MemSink, MemSource, OpenGate};
 
 const SCRIPT: &[u8] = b"%%\nm r1 +a:x:=1\nscan\n";
 
@@ -160,4 +161,21 @@ fn an_unknown_word_has_the_usage(rt: HostRuntime) -> Result<(), NoMemory> {
     let words = words(rt.alloc(), "repaly")?;
     assert!(rt; runs(&rt, &words, Status::Usage, USAGE)?);
     Ok(())
+}
+
+#[test]
+fn statuses_have_numbers(rt: HostRuntime) {
+    let numbers = [
+        (Status::Done, 0),
+        (Status::Usage, 2),
+        (Status::BadConfig, 3),
+        (Status::ReadFault, 4),
+        (Status::WriteFault, 5),
+        (Status::NoMemory, 6),
+        (Status::TooLong, 7),
+        (Status::BadImage, 8),
+    ];
+    for (status, number) in numbers {
+        assert!(rt; status.number() == number, "{number}");
+    }
 }

@@ -1,4 +1,4 @@
-//! The outside: sources and sinks of bytes with counts of faults, a gate of the live program, and how a run ends.
+//! The outside: sources and sinks of bytes with counts of faults, and a gate of the live program.
 #![tactic(auto)]
 
 mod calls;
@@ -6,7 +6,6 @@ mod gate;
 mod memory;
 mod ports;
 mod sending;
-mod status;
 mod streams;
 mod system;
 
@@ -16,6 +15,5 @@ pub use gate::{Gate, OpenGate, Place};
 pub use memory::{MemSink, MemSource};
 pub use ports::{Got, Put, Sink, Source};
 pub use sending::{send_all, send_full};
-pub use status::Status;
 pub use streams::{ReadError, WriteFault, read_all, write_all};
 pub use system::{StdSink, StdSource};

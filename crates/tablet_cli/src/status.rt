@@ -1,6 +1,6 @@
 //! How a run of the program ends.
 ghost use Rattle.std.specs.Prelude.{◌≡◌};
-ghost use Rattle.tablet_io.specs.Statuses.{status_number};
+ghost use Rattle.tablet_cli.specs.Statuses.{status_number};
 
 /// How a run of the program ends. The numbers are this project's own.
 #[derive(Clone, Copy, Debug, PartialEq, Eq)]

@@ -1,7 +1,7 @@
 -- The numbers that a process ends with. They are this project's own.
 use Rattle.std.specs.Prelude.{ℕ}
-use Rattle.tablet_io.specs.declared.status.Status.{Status}
-use Rattle.tablet_io.specs.declared.status.Status.TheVariants.{Done, Usage, BadConfig, ReadFault, WriteFault, NoMemory, TooLong, BadImage}
+use Rattle.tablet_cli.specs.declared.status.Status.{Status}
+use Rattle.tablet_cli.specs.declared.status.Status.TheVariants.{Done, Usage, BadConfig, ReadFault, WriteFault, NoMemory, TooLong, BadImage}
 
 -- 0 for a run that is done, and from 2 on the others, since 1 is what a process that fails otherwise ends with
 abbrev pub status_number : Status → ℕ
