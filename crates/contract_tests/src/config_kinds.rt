@@ -131,11 +131,17 @@ fn append_kind(alloc: Global, text: &mut ByteText, kind: &Kind) -> Result<(), No
             append_words(text, *op, *encoding, *deletes)?;
             append_columns(text, columns)
         }
+        Kind::WholeRow => text.append(b"rows"),
+        Kind::Intersecting { terms, without } => {
+            append_names(text, terms)?;
+            text.append(b" not")?;
+            append_names(text, without)
+        }
     }
 }
 
 /// Fields, what is read of them.
-const KINDS: [(&str, &[u8]); 13] = [
+const KINDS: [(&str, &[u8]); 15] = [
     ("kind = 'versions'\nmax = 1000", b"newest 1000"),
     (
         "kind = 'family'\nfamilies = ['a', '', 'b\\x20\\x2C']",
@@ -176,10 +182,15 @@ const KINDS: [(&str, &[u8]); 13] = [
         "kind = 'array_sum'\nencoding = 'string'\ncolumns = ['m:x']",
         b"ArraySum String None m: x",
     ),
+    ("kind = 'whole_row'", b"rows"),
+    (
+        "kind = 'intersecting'\nterms = ['a', '\\x20']\nnot = ['']",
+        b" a \\x20 not ",
+    ),
 ];
 
 fn kind_config(alloc: Global, fields: &str) -> Result<Config, ConfigError> {
-    config_of(alloc, &[("7", MINC, fields)])
+    config_of(alloc, &[("7", SCAN, fields)])
 }
 
 /// What the only iterator of a configuration does, in words.
@@ -213,8 +224,8 @@ fn are_same(alloc: Global, fields: &str, others: &str) -> Result<bool, ConfigErr
 
 #[test]
 fn other_kinds_are_not_the_same(rt: HostRuntime) -> Result<(), ConfigError> {
-    for i in 0..13 {
-        for j in 0..13 {
+    for i in 0..15 {
+        for j in 0..15 {
             let same = are_same(rt.alloc(), KINDS[i].0, KINDS[j].0)?;
             assert!(rt; same == (i == j), "{i} and {j}");
         }

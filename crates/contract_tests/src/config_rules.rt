@@ -150,7 +150,7 @@ fn fields_refusal(
 }
 
 /// Scopes and fields that are accepted.
-const ACCEPTED: [(&str, &str); 6] = [
+const ACCEPTED: [(&str, &str); 8] = [
     (SCAN, "kind = 'versions'\nmax = 1"),
     ("'majc', 'scan', 'minc'", "kind = 'versions'\nmax = 1"),
     (SCAN, "kind = 'family'\nfamilies = ['', 'a', 'a']"),
@@ -159,6 +159,11 @@ const ACCEPTED: [(&str, &str); 6] = [
     (
         SCAN,
         "kind = 'sum'\nencoding = 'fixed'\ncolumns = ['', ':', 'n:']",
+    ),
+    (SCAN, "kind = 'whole_row'"),
+    (
+        SCAN,
+        "kind = 'intersecting'\nterms = ['']\nnot = ['1', '2', '3', '4', '5', '6', '7', '8', '9', '10', '11', '12', '13', '14', '15']",
     ),
 ];
 
@@ -174,15 +179,21 @@ fn kinds_have_their_fields(rt: HostRuntime) -> Result<(), NoMemory> {
 }
 
 /// Scopes and fields that are refused.
-const REFUSED: [(&str, &str); 21] = [
+const REFUSED: [(&str, &str); 24] = [
     ("", "kind = 'versions'\nmax = 1"),
     ("'scan', 'scan'", "kind = 'versions'\nmax = 1"),
     ("'scan', 'full'", "kind = 'versions'\nmax = 1"),
     (SCAN, "kind = 'versions'\nmax = 1.0"),
     (SCAN, "kind = 'versions'"),
     (SCAN, "kind = 'versions'\nmax = 1\nnegate = true"),
-    (SCAN, "kind = 'whole_row'"),
-    (SCAN, "kind = 'intersecting'\nterms = ['a']"),
+    (SCAN, "kind = 'whole_row'\nnegate = false"),
+    (SCAN, "kind = 'intersecting'\nterms = []"),
+    (SCAN, "kind = 'intersecting'\nnot = ['a']"),
+    (SCAN, "kind = 'intersecting'\nterms = ['a']\nmax = 1"),
+    (
+        SCAN,
+        "kind = 'intersecting'\nterms = ['a', 'b']\nnot = ['1', '2', '3', '4', '5', '6', '7', '8', '9', '10', '11', '12', '13', '14', '15']",
+    ),
     (SCAN, "kind = 'family'\nfamilies = []"),
     (SCAN, "kind = 'family'\nfamilies = ['a b']"),
     (SCAN, "kind = 'family'\nfamilies = ['a']\nnegate = 1"),
@@ -217,10 +228,14 @@ const GREP: &str = "kind = 'grep'\nneedle = 'a'";
 
 const TIMES: &str = "kind = 'times'";
 
+const ROWS: &str = "kind = 'whole_row'";
+
+const INDEX: &str = "kind = 'intersecting'\nterms = ['a']";
+
 const SUM_Y: &str = "kind = 'sum'\nencoding = 'string'\ncolumns = ['n:y', 'x:n']";
 
 /// Stacks that keep all rules.
-const ACCEPTED_STACKS: [&[Table<'static>]; 9] = [
+const ACCEPTED_STACKS: [&[Table<'static>]; 11] = [
     &[("1", ALL, FAMILY), ("2", MINC, FAMILY), ("3", SCAN, FAMILY)],
     &[("1", ALL, NEWEST), ("2", SCAN, NEWEST)],
     &[("1", ALL, NEWEST), ("2", ALL, FAMILY)],
@@ -230,6 +245,8 @@ const ACCEPTED_STACKS: [&[Table<'static>]; 9] = [
     &[("1", ALL, FULL), ("2", MINC, NEWEST)],
     &[("1", MINC, FULL), ("2", MINC, NEWEST)],
     &[("1", ALL, SUM), ("2", ALL, NEWEST)],
+    &[("1", ALL, SUM), ("2", SCAN, ROWS), ("3", SCAN, NEWEST)],
+    &[("1", ALL, NEWEST), ("2", SCAN, INDEX), ("3", SCAN, ROWS)],
 ];
 
 #[test]
@@ -241,7 +258,7 @@ fn stacks_are_accepted(rt: HostRuntime) -> Result<(), NoMemory> {
 }
 
 /// Stacks, and the rule that each breaks with the number of the iterator.
-const REFUSED_STACKS: [(&[Table<'static>], Rule, u32); 16] = [
+const REFUSED_STACKS: [(&[Table<'static>], Rule, u32); 20] = [
     (&[("1", "'majc'", NEWEST)], Rule::NoScan, 1),
     (
         &[("2", "'minc'", SUM), ("1", "'majc'", NEWEST)],
@@ -270,6 +287,14 @@ const REFUSED_STACKS: [(&[Table<'static>], Rule, u32); 16] = [
             ("3", MINC, FAMILY),
         ],
         Rule::NotPrefix,
+        3,
+    ),
+    (&[("1", MINC, ROWS)], Rule::ScanOnly, 1),
+    (&[("1", MAJC, INDEX)], Rule::ScanOnly, 1),
+    (&[("2", SCAN, SUM), ("1", SCAN, ROWS)], Rule::ScanOnly, 1),
+    (
+        &[("1", SCAN, INDEX), ("2", SCAN, GREP), ("3", SCAN, FULL)],
+        Rule::ScanOnly,
         3,
     ),
     (&[("1", ALL, NEWEST), ("2", MAJC, NEWEST)], Rule::Order, 2),
