@@ -97,7 +97,7 @@ ALL = {
     "points": (points, 25_000, "newest"),
     "batches": (batches, 50_000, "sums"),
     "large": (large, 10_000, "newest"),
-    "index": (index, 100_000, None),
+    "index": (index, 50_000, None),
 }
 
 
