@@ -5,7 +5,7 @@ use Rattle.std.specs.Option.{unwrap_or}
 use Rattle.std.proofs.lemmas.Bool.{and_parts}
 use Rattle.std.proofs.lemmas.Bool.Decides.{nat_tests}
 use Rattle.std.proofs.lemmas.List.Sums.{prefix_len-le-length}
-use Rattle.cell_key.specs.Escape.{escape_of, is_kept, is_read, put, spelled, unescape_from, unescape_of}
+use Rattle.cell_key.specs.Escape.{escape_of, is_kept, is_read, put, first_spelling, unescape_from, unescape_of}
 use Rattle.cell_key.specs.Runs.{digits_of, is_plain, kept_run, plain_run}
 use Rattle.cell_key.proofs.Spelling.{put_all, spelled_on}
 
@@ -35,7 +35,7 @@ not_true : (t : Bool) → not t ≡ true → t ≡ false
 not_true true e = cc
 not_true false e = refl
 
-plain_spelled : (b : ℕ) (rest : List ℕ) → is_plain b ≡ true → spelled (b ∷ rest) ≡ Some (b, 0)
+plain_spelled : (b : ℕ) (rest : List ℕ) → is_plain b ≡ true → first_spelling (b ∷ rest) ≡ Some (b, 0)
 plain_spelled b rest h =
     let parts = and_parts (is_read b) (not (b == 92)) h in
     let slash : (b == 92) ≡ false = not_true (b == 92) parts.1 in

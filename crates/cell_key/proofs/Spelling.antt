@@ -5,7 +5,7 @@ use Rattle.hex.specs.Hex.{IsBytes, decode_pairs, decode_sized, encode_lower, enc
 use Rattle.hex.specs.declared.error.FromHexError.{FromHexError}
 use Rattle.hex.specs.declared.error.FromHexError.TheVariants.{InvalidHexCharacter}
 use Rattle.hex.proofs.HexLemmas.{IsDigits-lower_digits}
-use Rattle.cell_key.specs.Escape.{escape_of, is_kept, put, read_on, spelled, unescape_from, behind_backslash, is_printable, is_read, pair_byte, with_more}
+use Rattle.cell_key.specs.Escape.{escape_of, is_kept, put, read_on, first_spelling, unescape_from, behind_backslash, is_printable, is_read, pair_byte, with_more}
 
 -- bytes in front of what is read
 abbrev pub put_all : List ℕ → Result (List ℕ) ℕ → Result (List ℕ) ℕ
@@ -36,7 +36,7 @@ plain_more c b more true e = let k : (c, 0) ≡ (b, more) = cc in sym (ap (λ (s
 plain_more c b more false e = cc
 
 -- how long a spelling is
-pub spelled_within : (text : List ℕ) (b more : ℕ) → spelled text ≡ Some (b, more) → more < length text
+pub spelled_within : (text : List ℕ) (b more : ℕ) → first_spelling text ≡ Some (b, more) → more < length text
 spelled_within [] b more e = cc
 spelled_within (c ∷ bs) b more e =
     let by_answer : (t : Bool) → cond t (with_more 3 (behind_backslash bs)) (cond (is_read c) (Some (c, 0)) None) ≡ Some (b, more) → more < length (c ∷ bs) = λ t. elim t as (λ t. cond t (with_more 3 (behind_backslash bs)) (cond (is_read c) (Some (c, 0)) None) ≡ Some (b, more) → more < length (c ∷ bs)) [
@@ -49,7 +49,7 @@ one_more : (n : ℕ) → 1 + n ≡ suc n
 one_more n = omega arith
 
 -- one byte more
-pub spelled_on : (text : List ℕ) (at b more : ℕ) → spelled text ≡ Some (b, more)
+pub spelled_on : (text : List ℕ) (at b more : ℕ) → first_spelling text ≡ Some (b, more)
     → unescape_from text at 0 ≡ put b (unescape_from (drop (1 + more) text) (at + (1 + more)) 0)
 spelled_on [] at b more e = cc
 spelled_on (c ∷ bs) at b more e =
@@ -62,7 +62,7 @@ pub put_all-put : (bs : List ℕ) (b : ℕ) (r : Result (List ℕ) ℕ) → put_
 put_all-put bs b (Ok rest) = ap Ok (append_assoc bs (b ∷ []) rest)
 put_all-put bs b (Err at) = refl
 
-pub unescape_more : (text bytes : List ℕ) (at b more : ℕ) (whole : Result (List ℕ) ℕ) → spelled (drop at text) ≡ Some (b, more)
+pub unescape_more : (text bytes : List ℕ) (at b more : ℕ) (whole : Result (List ℕ) ℕ) → first_spelling (drop at text) ≡ Some (b, more)
     → put_all bytes (unescape_from (drop at text) at 0) ≡ whole
     → put_all (bytes ++ b ∷ []) (unescape_from (drop (at + (1 + more)) text) (at + (1 + more)) 0) ≡ whole
 unescape_more text bytes at b more whole e i =
@@ -102,7 +102,7 @@ pair_found h l out r m =
 
 -- ---- the round trip
 
-kept_spelled : (b : ℕ) (rest : List ℕ) → is_kept b ≡ true → spelled (b ∷ rest) ≡ Some (b, 0)
+kept_spelled : (b : ℕ) (rest : List ℕ) → is_kept b ≡ true → first_spelling (b ∷ rest) ≡ Some (b, 0)
 kept_spelled b rest h =
     let slash : b ≡ 92 → ⊥ = λ e. let k : false ≡ true = rw e at h in cc in
     let last : b ≡ 127 → ⊥ = λ e. let k : false ≡ true = rw e at h in cc in
@@ -111,7 +111,7 @@ kept_spelled b rest h =
     let t : (b == 127) ≡ false = ne_eqb b 127 last in
     rw (s, low, t) refl
 
-escaped_spelled : (b : ℕ) (rest : List ℕ) → b < 256 → spelled (codes "\\x" ++ encode_lower (b ∷ []) ++ rest) ≡ Some (b, 3)
+escaped_spelled : (b : ℕ) (rest : List ℕ) → b < 256 → first_spelling (codes "\\x" ++ encode_lower (b ∷ []) ++ rest) ≡ Some (b, 3)
 unfolding encode_with
 escaped_spelled b rest h =
     let high : hex_digit_value (slice_index lower_digits (b / 16)) ≡ Some (b / 16) = IsDigits-lower_digits (b / 16) (omega arith) in

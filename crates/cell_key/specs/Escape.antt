@@ -39,9 +39,9 @@ with_more n None = None
 with_more n (Some b) = Some (b, n)
 
 -- the byte whose spelling stands first, and how many more bytes the spelling has; 92 is the backslash
-abbrev pub spelled : List ℕ → Option (ℕ × ℕ)
-spelled [] = None
-spelled (b ∷ bs) =
+abbrev pub first_spelling : List ℕ → Option (ℕ × ℕ)
+first_spelling [] = None
+first_spelling (b ∷ bs) =
     if b == 92 then with_more 3 (behind_backslash bs)
     else (if is_read b then Some (b, 0) else None)
 
@@ -59,7 +59,7 @@ read_on at (Some s) rest = put s.0 (rest s.1)
 abbrev pub unescape_from : List ℕ → ℕ → ℕ → Result (List ℕ) ℕ
 unescape_from [] at skip = Ok []
 unescape_from (b ∷ bs) at (suc skip) = unescape_from bs (at + 1) skip
-unescape_from (b ∷ bs) at zero = read_on at (spelled (b ∷ bs)) (unescape_from bs (at + 1))
+unescape_from (b ∷ bs) at zero = read_on at (first_spelling (b ∷ bs)) (unescape_from bs (at + 1))
 
 -- the bytes that a text spells, or the place of the first byte that no spelling allows, counted from 0
 abbrev pub unescape_of : List ℕ → Result (List ℕ) ℕ

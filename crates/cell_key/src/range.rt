@@ -46,7 +46,7 @@ impl<'a> Range<'a> {
     ghost use Rattle.tablet_model.specs.Cell.{CellKey};
     ghost use Rattle.tablet_model.specs.Cuts.{holds};
     ghost use Rattle.tablet_model.specs.Places.{is_after};
-    ghost use Rattle.tablet_model.specs.Widened.{widened};
+    ghost use Rattle.tablet_model.specs.Widened.{widened_span};
     ghost use Rattle.cell_key.specs.Views.{key_of};
     ghost use Rattle.cell_key.specs.Ranges.{span_of, place_of, IsAtMostRow};
 
@@ -73,7 +73,7 @@ impl<'a> Range<'a> {
     /// The range from the beginning of its start's column on, as an iterator reads it whose answer rests on a
     /// column's earlier entries. It takes no memory.
     pub fn widened(&self) -> Range<'a>
-        ensures { span_of result ≡ widened (span_of self.now) }
+        ensures { span_of result ≡ widened_span (span_of self.now) }
     {
         let start = match self.start {
             Bound::At(key) | Bound::Past(key) => Bound::At(first_of_column(key)),

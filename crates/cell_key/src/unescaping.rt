@@ -1,6 +1,6 @@
 //! Printable text read back as bytes, or the place of its first fault.
 ghost use Rattle.std.specs.Prelude.{◌≡◌, ◌≤◌, ◌++◌, take, length, not, position, IfOk};
-ghost use Rattle.cell_key.specs.Escape.{behind_backslash, pair_byte, spelled, unescape_of};
+ghost use Rattle.cell_key.specs.Escape.{behind_backslash, pair_byte, first_spelling, unescape_of};
 ghost use Rattle.cell_key.specs.Runs.{is_plain, plain_run};
 ghost use Rattle.cell_key.specs.Unescape.{Unescapes};
 
@@ -83,7 +83,7 @@ fn is_plain(byte: u8) -> bool
 
 /// The byte that stands first, and how many more bytes its spelling has.
 fn spelled(text: &[u8]) -> Option<(u8, usize)>
-    ensures { result ≡ spelled text.now }
+    ensures { result ≡ first_spelling text.now }
 {
     let [first, rest @ ..] = text else {
         return None;

@@ -6,8 +6,8 @@ use Rattle.tablet_model.specs.Cell.{Cell}
 use Rattle.tablet_model.specs.Order.{above, same_column}
 use Rattle.tablet_model.specs.Sorted.{Ascends}
 use Rattle.tablet_model.specs.Markers.{marker_beside}
-use Rattle.tablet_model.specs.Reductions.{Reduction, join_from, reduced}
-use Rattle.tablet_model.specs.Combines.{combined}
+use Rattle.tablet_model.specs.Reductions.{Reduction, join_from, reduce_values}
+use Rattle.tablet_model.specs.Combines.{combine_columns}
 use Rattle.tablet_model.specs.Accepted.{IsOfColumns}
 use Rattle.tablet_model.specs.Reading.{AreInFront}
 use Rattle.tablet_model.proofs.Orders.{same_column_equiv}
@@ -17,7 +17,7 @@ use Rattle.tablet_model.proofs.Combines.{NoMarkers, values, all_both, combined_n
 use Rattle.tablet_model.proofs.CombineSteps.{NoPuts, combined_marker, combined_unlisted, combined_column}
 use Rattle.cell_key.specs.declared.column_name.ColumnName.{ColumnName}
 use Rattle.cell_key.specs.Listed.{column_listed, is_listed, listed_of_columns}
-use Rattle.combiners.specs.Gathers.{combined_from, begun, stands}
+use Rattle.combiners.specs.Gathers.{combined_from, held_from, stands}
 use Rattle.combiners.proofs.OfColumns.{same_key}
 
 -- ---- markers stand last
@@ -94,9 +94,9 @@ module _ (names : List ColumnName) (r : Reduction) where
   -- what the pass makes of a list, and of a column that is held in front of it
   abbrev IsPass : List Cell → Type 0
   IsPass list =
-      (combined_from names r None list ≡ combined (column_listed names) r list)
+      (combined_from names r None list ≡ combine_columns (column_listed names) r list)
       × ((e : Cell) (us : List Cell) (v : List ℤ) → stands names e ≡ false → InColumn e us → NoMarkers us → v ≡ join_from r (r.value e.value) (values us) → Ascends above (e ∷ list)
-      → combined_from names r (Some (record { key = e.key; value = v })) list ≡ combined (column_listed names) r ((e ∷ us) ++ list))
+      → combined_from names r (Some (record { key = e.key; value = v })) list ≡ combine_columns (column_listed names) r ((e ∷ us) ++ list))
 
   listed_is : (e : Cell) → stands names e ≡ false → column_listed names e ≡ true
   unfolding column_listed
@@ -104,25 +104,25 @@ module _ (names : List ColumnName) (r : Reduction) where
 
   -- a column that is left is shown
   shown_column : (e : Cell) (us list : List Cell) (v : List ℤ) → stands names e ≡ false → InColumn e us → NoMarkers us → v ≡ join_from r (r.value e.value) (values us) → NoPuts e list
-      → record { key = e.key; value = r.text v } ∷ combined (column_listed names) r list ≡ combined (column_listed names) r ((e ∷ us) ++ list)
-  unfolding reduced
+      → record { key = e.key; value = r.text v } ∷ combine_columns (column_listed names) r list ≡ combine_columns (column_listed names) r ((e ∷ us) ++ list)
+  unfolding reduce_values
   shown_column e us list v s ins plain h none =
-      ap (λ v. record { key = e.key; value = r.text v } ∷ combined (column_listed names) r list) h
+      ap (λ v. record { key = e.key; value = r.text v } ∷ combine_columns (column_listed names) r list) h
       ∙ sym (combined_column (column_listed names) (listed_of_columns names) r e us list (listed_is e s) (same_column_equiv.refl e, ins) ((stand_parts e.key.deleted (is_listed names e.key.family e.key.qualifier) s).0, plain) none)
 
   -- the first entry, where no column is held
-  pass_first : (e : Cell) (es : List Cell) → Ascends above (e ∷ es) → IsPass es → combined_from names r None (e ∷ es) ≡ combined (column_listed names) r (e ∷ es)
+  pass_first : (e : Cell) (es : List Cell) → Ascends above (e ∷ es) → IsPass es → combined_from names r None (e ∷ es) ≡ combine_columns (column_listed names) r (e ∷ es)
   unfolding column_listed join_from
   pass_first e es up ih = go (stands names e) refl
     where
       unlisted : (d s : Bool) → (d || not s) ≡ true → d ≡ false → s ≡ false
       unlisted d s h k = grind arith
 
-      stays : (d : Bool) → e.key.deleted ≡ d → stands names e ≡ true → e ∷ combined (column_listed names) r es ≡ combined (column_listed names) r (e ∷ es)
+      stays : (d : Bool) → e.key.deleted ≡ d → stands names e ≡ true → e ∷ combine_columns (column_listed names) r es ≡ combine_columns (column_listed names) r (e ∷ es)
       stays true d h = sym (combined_marker (column_listed names) r e es d)
       stays false d h = sym (combined_unlisted (column_listed names) (listed_of_columns names) r e es (unlisted e.key.deleted (is_listed names e.key.family e.key.qualifier) h d))
 
-      go : (b : Bool) → stands names e ≡ b → cond b (e ∷ combined_from names r None es) (combined_from names r (begun r e) es) ≡ combined (column_listed names) r (e ∷ es)
+      go : (b : Bool) → stands names e ≡ b → cond b (e ∷ combined_from names r None es) (combined_from names r (held_from r e) es) ≡ combine_columns (column_listed names) r (e ∷ es)
       go true h = ap (λ l. e ∷ l) ih.0 ∙ stays e.key.deleted refl h
       go false h =
           ap (λ k. combined_from names r (Some (record { key = k; value = r.value e.value })) es) (same_key e.key (stand_parts e.key.deleted (is_listed names e.key.family e.key.qualifier) h).0)
@@ -131,17 +131,17 @@ module _ (names : List ColumnName) (r : Reduction) where
   -- the first entry behind a held column
   pass_held : (z : Cell) (zs : List Cell) → Ascends above (z ∷ zs) → Fronts (column_listed names) (z ∷ zs) → IsPass zs
       → (e : Cell) (us : List Cell) (v : List ℤ) → stands names e ≡ false → InColumn e us → NoMarkers us → v ≡ join_from r (r.value e.value) (values us) → Ascends above (e ∷ z ∷ zs)
-      → combined_from names r (Some (record { key = e.key; value = v })) (z ∷ zs) ≡ combined (column_listed names) r ((e ∷ us) ++ (z ∷ zs))
+      → combined_from names r (Some (record { key = e.key; value = v })) (z ∷ zs) ≡ combine_columns (column_listed names) r ((e ∷ us) ++ (z ∷ zs))
   unfolding Ascends same_column
   pass_held z zs up f ih e us v s ins plain h low = go (not z.key.deleted && same_column e z) refl
     where
       go : (b : Bool) → (not z.key.deleted && same_column e z) ≡ b
-          → cond b (combined_from names r (Some (record { key = e.key; value = r.join v (r.value z.value) })) zs) (record { key = e.key; value = r.text v } ∷ combined_from names r None (z ∷ zs)) ≡ combined (column_listed names) r ((e ∷ us) ++ (z ∷ zs))
+          → cond b (combined_from names r (Some (record { key = e.key; value = r.join v (r.value z.value) })) zs) (record { key = e.key; value = r.text v } ∷ combined_from names r None (z ∷ zs)) ≡ combine_columns (column_listed names) r ((e ∷ us) ++ (z ∷ zs))
       go true j =
           let parts : (z.key.deleted ≡ false) × (same_column e z ≡ true) = put_parts z.key.deleted (same_column e z) j in
           ih.1 e (us ++ z ∷ []) (r.join v (r.value z.value)) s (all_more (λ y. same_column e y ≡ true) us z ins parts.1) (all_more (λ y. y.key.deleted ≡ false) us z plain parts.0)
           (ap (λ v. r.join v (r.value z.value)) h ∙ sym (join_more r (r.value e.value) us z)) (low.0.1, low.1.1)
-          ∙ ap (λ l. combined (column_listed names) r (e ∷ l)) (append_assoc us (z ∷ []) zs)
+          ∙ ap (λ l. combine_columns (column_listed names) r (e ∷ l)) (append_assoc us (z ∷ []) zs)
       go false j =
           ap (λ l. record { key = e.key; value = r.text v } ∷ l) (pass_first z zs up ih)
           ∙ shown_column e us (z ∷ zs) v s ins plain h (no_puts (column_listed names) (listed_of_columns names) e z zs (listed_is e s) j low f)
@@ -158,5 +158,5 @@ module _ (names : List ColumnName) (r : Reduction) where
   )
 
 -- the pass gives the definition
-pub pass_is : (names : List ColumnName) (r : Reduction) (list : List Cell) → Ascends above list → AreInFront (column_listed names) [] list → combined_from names r None list ≡ combined (column_listed names) r list
+pub pass_is : (names : List ColumnName) (r : Reduction) (list : List Cell) → Ascends above list → AreInFront (column_listed names) [] list → combined_from names r None list ≡ combine_columns (column_listed names) r list
 pass_is names r list up f = (pass_all names r list up (fronts (column_listed names) [] list f)).0

@@ -10,7 +10,7 @@ use Rattle.tablet_model.specs.Bounds.{IsEntry, AreEntries}
 use Rattle.tablet_model.specs.Cuts.{Everything, is_behind, is_before, holds, within, Span}
 use Rattle.tablet_model.specs.Widened.{widened_cut}
 use Rattle.tablet_model.specs.Reductions.{Reduction}
-use Rattle.tablet_model.specs.Combines.{combined}
+use Rattle.tablet_model.specs.Combines.{combine_columns}
 use Rattle.tablet_model.specs.Reading.{AreInFront}
 use Rattle.tablet_model.proofs.Orders.{above_exact}
 use Rattle.tablet_model.proofs.Sums.{all_weaker, all_filter, Ascends-filter}
@@ -20,7 +20,7 @@ use Rattle.tablet_model.proofs.Risings.{Ascends-combined}
 use Rattle.cell_key.specs.declared.column_name.ColumnName.{ColumnName}
 use Rattle.cell_key.specs.Listed.{column_listed, is_listed, listed_of_columns}
 use Rattle.combiners.specs.CombineLaws.{combined_bounded}
-use Rattle.combiners.specs.Gathers.{Held, combined_from, AreRead, joins, added, begun, stands, up_to}
+use Rattle.combiners.specs.Gathers.{Held, combined_from, AreRead, joins, held_with, held_from, stands, up_to}
 use Rattle.combiners.proofs.OfColumns.{same_key, whole_column, equal_columns}
 use Rattle.combiners.proofs.Passes.{pass_is, stand_parts}
 
@@ -71,14 +71,14 @@ module _ (names : List ColumnName) (r : Reduction) (q : CellKey → Bool) where
       go true more kept i = i
       go false more kept i = ap (λ b. cond b (record { key = held.key; value = r.text held.value } ∷ kept) (from_first (λ e. q e.key) kept)) h
 
-  joined_column : (e y : Cell) → joins (begun r e) y ≡ true → column_of y.key ≡ column_of e.key
+  joined_column : (e y : Cell) → joins (held_from r e) y ≡ true → column_of y.key ≡ column_of e.key
   joined_column e y j = sym (equal_columns (column_of e.key) (column_of y.key) (last y.key.deleted (eq_by_cmp column_cmp (column_of e.key) (column_of y.key)) j))
     where
       last : (d s : Bool) → (not d && s) ≡ true → s ≡ true
       last d s h = grind arith
 
-  begun_out : (e : Cell) (es : List Cell) → Closes (e ∷ es) → e.key.deleted ≡ false → q e.key ≡ false → IsOut (begun r e) es
-  begun_out e es c d w = (ap q (same_key e.key d) ∙ w, all_weaker (λ y. column_of y.key ≡ column_of e.key → q y.key ≡ true → q e.key ≡ true) (λ y. joins (begun r e) y ≡ true → q y.key ≡ false) (λ y f j. one y (f (joined_column e y j)) (q y.key) refl) es c.0)
+  begun_out : (e : Cell) (es : List Cell) → Closes (e ∷ es) → e.key.deleted ≡ false → q e.key ≡ false → IsOut (held_from r e) es
+  begun_out e es c d w = (ap q (same_key e.key d) ∙ w, all_weaker (λ y. column_of y.key ≡ column_of e.key → q y.key ≡ true → q e.key ≡ true) (λ y. joins (held_from r e) y ≡ true → q y.key ≡ false) (λ y f j. one y (f (joined_column e y j)) (q y.key) refl) es c.0)
     where
       one : (y : Cell) → (q y.key ≡ true → q e.key ≡ true) → (b : Bool) → q y.key ≡ b → b ≡ false
       one y f false k = refl
@@ -87,15 +87,15 @@ module _ (names : List ColumnName) (r : Reduction) (q : CellKey → Bool) where
   -- the first entry, where no column is held
   from_start : (e : Cell) (es : List Cell) → Closes (e ∷ es)
       → from_first (λ e. q e.key) (combined_from names r None es) ≡ combined_from names r None (from_first (λ e. q e.key) es)
-      → (e.key.deleted ≡ false → q e.key ≡ false → from_first (λ e. q e.key) (combined_from names r (begun r e) es) ≡ combined_from names r None (from_first (λ e. q e.key) es))
+      → (e.key.deleted ≡ false → q e.key ≡ false → from_first (λ e. q e.key) (combined_from names r (held_from r e) es) ≡ combined_from names r None (from_first (λ e. q e.key) es))
       → from_first (λ e. q e.key) (combined_from names r None (e ∷ es)) ≡ combined_from names r None (from_first (λ e. q e.key) (e ∷ es))
   from_start e es c i j = go (q e.key) refl
     where
-      passes : (s : Bool) → stands names e ≡ s → q e.key ≡ true → from_first (λ e. q e.key) (cond s (e ∷ combined_from names r None es) (combined_from names r (begun r e) es)) ≡ cond s (e ∷ combined_from names r None es) (combined_from names r (begun r e) es)
+      passes : (s : Bool) → stands names e ≡ s → q e.key ≡ true → from_first (λ e. q e.key) (cond s (e ∷ combined_from names r None es) (combined_from names r (held_from r e) es)) ≡ cond s (e ∷ combined_from names r None es) (combined_from names r (held_from r e) es)
       passes true m k = ap (λ b. cond b (e ∷ combined_from names r None es) (from_first (λ e. q e.key) (combined_from names r None es))) k
       passes false m k = from_held (record { key = record e.key { deleted = false }; value = r.value e.value }) es (ap q (same_key e.key (stand_parts e.key.deleted (is_listed names e.key.family e.key.qualifier) m).0) ∙ k)
 
-      drops : (s : Bool) → stands names e ≡ s → q e.key ≡ false → from_first (λ e. q e.key) (cond s (e ∷ combined_from names r None es) (combined_from names r (begun r e) es)) ≡ combined_from names r None (from_first (λ e. q e.key) es)
+      drops : (s : Bool) → stands names e ≡ s → q e.key ≡ false → from_first (λ e. q e.key) (cond s (e ∷ combined_from names r None es) (combined_from names r (held_from r e) es)) ≡ combined_from names r None (from_first (λ e. q e.key) es)
       drops true m k = ap (λ b. cond b (e ∷ combined_from names r None es) (from_first (λ e. q e.key) (combined_from names r None es))) k ∙ i
       drops false m k = j (stand_parts e.key.deleted (is_listed names e.key.family e.key.qualifier) m).0 k
 
@@ -107,14 +107,14 @@ module _ (names : List ColumnName) (r : Reduction) (q : CellKey → Bool) where
   from_combined : (h : Option Held) (list : List Cell) → Closes list → IsOut h list → from_first (λ e. q e.key) (combined_from names r h list) ≡ combined_from names r None (from_first (λ e. q e.key) list)
   from_combined None [] c o = refl
   from_combined (Some held) [] c o = ap (λ b. cond b (record { key = held.key; value = r.text held.value } ∷ []) []) o.0
-  from_combined None (e ∷ es) c o = from_start e es c (from_combined None es c.1 tt) (λ d w. from_combined (begun r e) es c.1 (begun_out e es c d w))
+  from_combined None (e ∷ es) c o = from_start e es c (from_combined None es c.1 tt) (λ d w. from_combined (held_from r e) es c.1 (begun_out e es c d w))
   from_combined (Some held) (e ∷ es) c o =
-      go (joins (Some held) e) refl (from_combined (added r (Some held) e) es c.1 (o.0, o.1.1))
-      (from_start e es c (from_combined None es c.1 tt) (λ d w. from_combined (begun r e) es c.1 (begun_out e es c d w)))
+      go (joins (Some held) e) refl (from_combined (held_with r (Some held) e) es c.1 (o.0, o.1.1))
+      (from_start e es c (from_combined None es c.1 tt) (λ d w. from_combined (held_from r e) es c.1 (begun_out e es c d w)))
     where
-      go : (b : Bool) → joins (Some held) e ≡ b → from_first (λ e. q e.key) (combined_from names r (added r (Some held) e) es) ≡ combined_from names r None (from_first (λ e. q e.key) es)
+      go : (b : Bool) → joins (Some held) e ≡ b → from_first (λ e. q e.key) (combined_from names r (held_with r (Some held) e) es) ≡ combined_from names r None (from_first (λ e. q e.key) es)
           → from_first (λ e. q e.key) (combined_from names r None (e ∷ es)) ≡ combined_from names r None (from_first (λ e. q e.key) (e ∷ es))
-          → from_first (λ e. q e.key) (cond b (combined_from names r (added r (Some held) e) es) (record { key = held.key; value = r.text held.value } ∷ combined_from names r None (e ∷ es))) ≡ combined_from names r None (from_first (λ e. q e.key) (e ∷ es))
+          → from_first (λ e. q e.key) (cond b (combined_from names r (held_with r (Some held) e) es) (record { key = held.key; value = r.text held.value } ∷ combined_from names r None (e ∷ es))) ≡ combined_from names r None (from_first (λ e. q e.key) (e ∷ es))
       go true j i n = i ∙ sym (ap (λ b. combined_from names r None (cond b (e ∷ es) (from_first (λ e. q e.key) es))) (o.1.0 j))
       go false j i n = ap (λ b. cond b (record { key = held.key; value = r.text held.value } ∷ combined_from names r None (e ∷ es)) (from_first (λ e. q e.key) (combined_from names r None (e ∷ es)))) o.0 ∙ n
 
@@ -150,7 +150,7 @@ up_to_is p down (x ∷ xs) up = go (p x) refl (up_to_is p down xs up.1)
 
 -- a pass over whole columns, cut at both ends
 seek_rest : (names : List ColumnName) (r : Reduction) (s : Span) (cells : List Cell) → Ascends above cells → AreEntries cells → AreInFront (column_listed names) [] cells
-    → up_to (λ e. is_before s.end e.key) (from_first (λ e. is_behind s.start e.key) (combined_from names r None (within (record { start = widened_cut s.start; end = Everything }) cells))) ≡ within s (combined (column_listed names) r cells)
+    → up_to (λ e. is_before s.end e.key) (from_first (λ e. is_behind s.start e.key) (combined_from names r None (within (record { start = widened_cut s.start; end = Everything }) cells))) ≡ within s (combine_columns (column_listed names) r cells)
 seek_rest names r s cells up en front =
     ap (λ l. ends (begins (combined_from names r None l))) (filter_same (λ e. wide e && true) wide cells (all_true cells) ∙ sym (from_first_is wide (behind-GoesUp (widened_cut s.start)) cells up))
     ∙ ap (λ l. ends (begins l)) (sym (from_combined names r (is_behind (widened_cut s.start)) None cells (closes cells en) tt) ∙ ap (from_first wide) (pass_is names r cells up front))
@@ -172,7 +172,7 @@ seek_rest names r s cells up en front =
     ends list = up_to (λ e. is_before s.end e.key) list
 
     all : List Cell
-    all = combined (column_listed names) r cells
+    all = combine_columns (column_listed names) r cells
 
     rising : Ascends above all
     rising = Ascends-combined (column_listed names) (listed_of_columns names) r cells up
@@ -196,7 +196,7 @@ seek_rest names r s cells up en front =
 pub seek_left : (names own : List ColumnName) (r q : Reduction) (k : Option Held) (s t w : Span) (new rest cells : List Cell) → Ascends above cells → AreEntries cells → AreInFront (column_listed own) [] cells
     → names ≡ own → q ≡ r → t ≡ s → w ≡ record { start = widened_cut s.start; end = Everything } → rest ≡ within w cells
     → combined_from names r k new ≡ from_first (λ e. is_behind s.start e.key) (combined_from names r None rest)
-    → up_to (λ e. is_before t.end e.key) (combined_from own q k new) ≡ within s (combined (column_listed own) r cells)
+    → up_to (λ e. is_before t.end e.key) (combined_from own q k new) ≡ within s (combine_columns (column_listed own) r cells)
 seek_left names own r q k s t w new rest cells up en front n e u v m i =
     ap (λ t. up_to (λ e. is_before t.end e.key) (combined_from own q k new)) u
     ∙ ap (λ r. up_to (λ e. is_before s.end e.key) (combined_from own r k new)) e

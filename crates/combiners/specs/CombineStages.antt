@@ -3,7 +3,7 @@ use Rattle.std.specs.Prelude.{◌≡◌, ℤ, Bool, true, ◌&&◌, cond, List, 
 use Rattle.std.specs.Arc.{arc_value}
 use Rattle.tablet_model.specs.Cell.{Cell}
 use Rattle.tablet_model.specs.Cuts.{is_before}
-use Rattle.tablet_model.specs.Combines.{combined}
+use Rattle.tablet_model.specs.Combines.{combine_columns}
 use Rattle.tablet_model.specs.Reading.{AreInFront}
 use Rattle.tablet_model.specs.Reductions.{Reduction}
 use Rattle.cell_key.specs.Listed.{column_listed}
@@ -13,7 +13,7 @@ use Rattle.combiners.specs.declared.stage.CombineStage.{CombineStage}
 module _ {R : Type 0} where
   -- the source's entries, combined
   abbrev pub combine_cells : (R → Reduction) → CombineStage R → List Cell → List Cell
-  combine_cells reduction stage cells = combined (column_listed (arc_value stage.columns)) (reduction stage.reducer) cells
+  combine_cells reduction stage cells = combine_columns (column_listed (arc_value stage.columns)) (reduction stage.reducer) cells
 
   -- the combined entries that are left, where `rest` is left of the source
   abbrev pub combine_left : (R → Reduction) → (R → Option (List ℤ)) → CombineStage R → List Cell → List Cell

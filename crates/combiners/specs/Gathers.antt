@@ -18,18 +18,18 @@ joins None e = false
 joins (Some held) e = not e.key.deleted && is_column (Some (column_of held.key)) (column_of e.key)
 
 -- what is held with the value of an entry
-abbrev pub added : Reduction → Option Held → Cell → Option Held
-added r None e = None
-added r (Some held) e = Some (record { key = held.key; value = r.join held.value (r.value e.value) })
+abbrev pub held_with : Reduction → Option Held → Cell → Option Held
+held_with r None e = None
+held_with r (Some held) e = Some (record { key = held.key; value = r.join held.value (r.value e.value) })
 
 -- what is held after the first entry of a column
-abbrev pub begun : Reduction → Cell → Option Held
-begun r e = Some (record { key = with_time (column_of e.key) e.key.time false; value = r.value e.value })
+abbrev pub held_from : Reduction → Cell → Option Held
+held_from r e = Some (record { key = with_time (column_of e.key) e.key.time false; value = r.value e.value })
 
 -- what is held, in front of what follows
-abbrev pub shown : Reduction → Option Held → List Cell → List Cell
-shown r None list = list
-shown r (Some held) list = record { key = held.key; value = r.text held.value } ∷ list
+abbrev pub with_held : Reduction → Option Held → List Cell → List Cell
+with_held r None list = list
+with_held r (Some held) list = record { key = held.key; value = r.text held.value } ∷ list
 
 -- an entry that stays as it is: a marker, or of a column that is not listed
 abbrev pub stands : List ColumnName → Cell → Bool
@@ -37,10 +37,10 @@ stands names e = e.key.deleted || not (is_listed names e.key.family e.key.qualif
 
 -- what the pass makes of what is left, where a column may be held
 abbrev pub combined_from : List ColumnName → Reduction → Option Held → List Cell → List Cell
-combined_from names r held [] = shown r held []
+combined_from names r held [] = with_held r held []
 combined_from names r held (e ∷ es) =
-    cond (joins held e) (combined_from names r (added r held e) es)
-    (shown r held (cond (stands names e) (e ∷ combined_from names r None es) (combined_from names r (begun r e) es)))
+    cond (joins held e) (combined_from names r (held_with r held e) es)
+    (with_held r held (cond (stands names e) (e ∷ combined_from names r None es) (combined_from names r (held_from r e) es)))
 
 -- the values that are to be joined are read
 abbrev pub AreRead : List ColumnName → Reduction → List Cell → Type 0

@@ -18,7 +18,7 @@ pub struct CombineIter<S, R> {
 impl<S: SortedSource, R: Reducer> CombineIter<S, R> {
     ghost use Rattle.std.specs.Prelude.{◌&&◌, [], IfOk};
     ghost use Rattle.std.specs.Arc.{arc_value};
-    ghost use Rattle.tablet_model.specs.Combines.{combined};
+    ghost use Rattle.tablet_model.specs.Combines.{combine_columns};
     ghost use Rattle.tablet_model.specs.Reading.{AreInFront};
     ghost use Rattle.iter_contract.specs.Copies.{IsCopy};
     ghost use Rattle.cell_key.specs.Listed.{column_listed};

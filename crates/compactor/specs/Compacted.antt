@@ -12,5 +12,5 @@ pub record Compaction : Type 0 where
   pub input : List Cell
 
 -- the entries that it makes
-abbrev pub compacted : Compaction → List Cell
-compacted c = usage_cells c.config c.usage c.input
+abbrev pub entries_made : Compaction → List Cell
+entries_made c = usage_cells c.config c.usage c.input

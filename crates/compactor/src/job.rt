@@ -4,7 +4,7 @@ ghost use Rattle.tablet_model.specs.Rules.{AreStorable};
 ghost use Rattle.iter_config.specs.RulesOf.{rules_of};
 ghost use Rattle.merge_iter.specs.MergeParts.{merge_cells, merge_valid};
 ghost use Rattle.compactor.specs.PartCells.{part_cells, part_rest, union_of};
-ghost use Rattle.compactor.specs.Compacted.{compacted};
+ghost use Rattle.compactor.specs.Compacted.{entries_made};
 ghost use Rattle.iter_stack.specs.Usages.{usage_cells};
 ghost use Rattle.iter_stack.specs.declared.usage.Usage.TheVariants.{Scan};
 
@@ -63,7 +63,7 @@ impl Model for DoneJob {
     ghost use Rattle.std.specs.Prelude.{◌≡◌};
     ghost use Rattle.std.specs.Arc.{arc_value};
     ghost use Rattle.compactor.specs.PartCells.{union_of};
-    ghost use Rattle.compactor.specs.Compacted.{Compaction, compacted};
+    ghost use Rattle.compactor.specs.Compacted.{Compaction, entries_made};
 
     ghost Value = { Compaction };
 
@@ -73,7 +73,7 @@ impl Model for DoneJob {
       input = union_of (arc_value d.parts).items;
     } };
 
-    ghost invariant = { λ d. arc_value d.file ≡ compacted record {
+    ghost invariant = { λ d. arc_value d.file ≡ entries_made record {
       config = arc_value d.config;
       usage = d.usage;
       input = union_of (arc_value d.parts).items;
@@ -122,7 +122,7 @@ impl Job {
 impl DoneJob {
     /// The file. It takes no memory.
     pub fn file(&self) -> &Arc<SortedFile>
-        ensures { arc_value result.now ≡ compacted self.now }
+        ensures { arc_value result.now ≡ entries_made self.now }
     {
         &self.file
     }

@@ -7,7 +7,7 @@ use Rattle.tablet_model.specs.Order.{above}
 use Rattle.tablet_model.specs.Sorted.{Ascends, from_first}
 use Rattle.tablet_model.specs.Cuts.{is_behind, within, holds, Span}
 use Rattle.tablet_model.specs.Bounds.{AreEntries}
-use Rattle.tablet_model.specs.Widened.{widened}
+use Rattle.tablet_model.specs.Widened.{widened_span}
 use Rattle.tablet_model.specs.Markers.{live, mark}
 use Rattle.tablet_model.proofs.Columns.{filter_filter}
 use Rattle.tablet_model.proofs.Cursors.{live_of_mark}
@@ -17,7 +17,7 @@ use Rattle.tablet_model.proofs.Risings.{Ascends-mark}
 use Rattle.tablet_model.proofs.Sums.{Ascends-filter}
 use Rattle.stages.specs.Passes.{kept_from}
 use Rattle.stages.specs.TestLaws.{and_swap, from_first_filter}
-use Rattle.delete_iter.specs.MarkStages.{keeps, passed}
+use Rattle.delete_iter.specs.MarkStages.{keeps, after_entry}
 use Rattle.delete_iter.specs.MarkPass.{mark_pass, mark_narrows}
 use Rattle.delete_iter.specs.LiveStages.{live_keeps, live_passed, live_unhidden}
 use Rattle.delete_iter.specs.declared.live_stage.LiveStage.{LiveStage}
@@ -37,7 +37,7 @@ pub seek_live : (s : Span) (list : List Cell) → Ascends above list → filter 
 seek_live s list up = within_puts s (mark list) ∙ ap (within s) (sym (live_of_mark list up))
 
 -- the pass is that over marked entries, without the markers
-without_markers : (s : LiveStage) (list : List Cell) → kept_from live_keeps live_passed s list ≡ filter is_put (kept_from keeps passed s.marks list)
+without_markers : (s : LiveStage) (list : List Cell) → kept_from live_keeps live_passed s list ≡ filter is_put (kept_from keeps after_entry s.marks list)
 without_markers s [] = refl
 without_markers s (e ∷ es) = go (keeps s.marks e) _ _ (without_markers (live_passed s e) es)
   where
@@ -53,10 +53,10 @@ live_pass s list up =
     ∙ sym (live_of_mark list up)
 
 -- the range from the start's column on, from the start on
-pub live_narrows : (s : Span) (list : List Cell) → Ascends above list → AreEntries list → from_first (λ e. is_behind s.start e.key) (live (within (widened s) list)) ≡ within s (live list)
+pub live_narrows : (s : Span) (list : List Cell) → Ascends above list → AreEntries list → from_first (λ e. is_behind s.start e.key) (live (within (widened_span s) list)) ≡ within s (live list)
 live_narrows s list up en =
-    let w : List Cell = within (widened s) list in
-    let up_w : Ascends above w = Ascends-filter above above_exact (λ e. holds (widened s) e.key) list up in
+    let w : List Cell = within (widened_span s) list in
+    let up_w : Ascends above w = Ascends-filter above above_exact (λ e. holds (widened_span s) e.key) list up in
     ap (from_first (λ e. is_behind s.start e.key)) (live_of_mark w up_w)
     ∙ from_first_filter is_put (λ e. is_behind s.start e.key) (behind-GoesUp s.start) (mark w) (Ascends-mark w up_w)
     ∙ ap (filter is_put) (mark_narrows s list up en)

@@ -2,7 +2,7 @@
 use Rattle.std.specs.Prelude.{◌&&◌, not, Bool, List}
 use Rattle.tablet_model.specs.Cell.{Cell}
 use Rattle.tablet_model.specs.Markers.{live}
-use Rattle.delete_iter.specs.MarkStages.{keeps, passed, unhidden}
+use Rattle.delete_iter.specs.MarkStages.{keeps, after_entry, without_hidden}
 use Rattle.delete_iter.specs.declared.live_stage.LiveStage.{LiveStage}
 
 -- what it makes of a list
@@ -14,7 +14,7 @@ abbrev pub live_keeps : LiveStage → Cell → Bool
 live_keeps s e = keeps s.marks e && not e.key.deleted
 
 abbrev pub live_passed : LiveStage → Cell → LiveStage
-live_passed s e = record s { marks = passed s.marks e }
+live_passed s e = record s { marks = after_entry s.marks e }
 
 abbrev pub live_unhidden : LiveStage → LiveStage
-live_unhidden s = record s { marks = unhidden s.marks }
+live_unhidden s = record s { marks = without_hidden s.marks }

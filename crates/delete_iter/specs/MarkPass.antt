@@ -10,10 +10,10 @@ use Rattle.tablet_model.specs.Columns.{is_column}
 use Rattle.tablet_model.specs.Sorted.{Ascends, from_first}
 use Rattle.tablet_model.specs.Bounds.{AreEntries}
 use Rattle.tablet_model.specs.Cuts.{is_behind, within, Span}
-use Rattle.tablet_model.specs.Widened.{widened}
-use Rattle.tablet_model.specs.Kept.{kept}
+use Rattle.tablet_model.specs.Widened.{widened_span}
+use Rattle.tablet_model.specs.Kept.{filter_beside}
 use Rattle.tablet_model.specs.Markers.{marker_beside, is_unmarked, mark}
-use Rattle.tablet_model.proofs.Orders.{above_exact, same_column_equiv, column_total}
+use Rattle.tablet_model.proofs.Orders.{same_column_equiv, column_total}
 use Rattle.tablet_model.proofs.Sums.{all_weaker}
 use Rattle.tablet_model.proofs.Combines.{all_both}
 use Rattle.tablet_model.proofs.Columns.{unmarked_looks}
@@ -21,7 +21,7 @@ use Rattle.tablet_model.proofs.Cursors.{column_between}
 use Rattle.tablet_model.proofs.Seeks.{seek_kept}
 use Rattle.stages.specs.Passes.{kept_from}
 use Rattle.stages.proofs.Plain.{clash}
-use Rattle.delete_iter.specs.MarkStages.{hidden_in, keeps, passed, unhidden}
+use Rattle.delete_iter.specs.MarkStages.{hidden_in, keeps, after_entry, without_hidden}
 use Rattle.delete_iter.specs.declared.mark_stage.MarkStage.{MarkStage}
 
 -- the pass, by the column that is hidden
@@ -32,15 +32,15 @@ abbrev mark_from : Option Column → List Cell → List Cell
 mark_from hidden [] = []
 mark_from hidden (e ∷ es) = cond (is_column hidden (column_of e.key)) (mark_from hidden es) (e ∷ mark_from (hidden_past hidden e) es)
 
-by_hidden : (s : MarkStage) (list : List Cell) → kept_from keeps passed s list ≡ mark_from (hidden_in s) list
+by_hidden : (s : MarkStage) (list : List Cell) → kept_from keeps after_entry s list ≡ mark_from (hidden_in s) list
 by_hidden s [] = refl
 by_hidden s (e ∷ es) = go (is_column (hidden_in s) (column_of e.key)) e.key.deleted (by_hidden s es) (by_hidden hiding es)
   where
     hiding : MarkStage
     hiding = record s { column = Some (column_of e.key); is_hiding = true }
 
-    go : (b d : Bool) → kept_from keeps passed s es ≡ mark_from (hidden_in s) es → kept_from keeps passed hiding es ≡ mark_from (Some (column_of e.key)) es
-        → cond (not b) (e ∷ kept_from keeps passed (cond (not b && d) hiding s) es) (kept_from keeps passed (cond (not b && d) hiding s) es)
+    go : (b d : Bool) → kept_from keeps after_entry s es ≡ mark_from (hidden_in s) es → kept_from keeps after_entry hiding es ≡ mark_from (Some (column_of e.key)) es
+        → cond (not b) (e ∷ kept_from keeps after_entry (cond (not b && d) hiding s) es) (kept_from keeps after_entry (cond (not b && d) hiding s) es)
         ≡ cond b (mark_from (hidden_in s) es) (e ∷ mark_from (cond d (Some (column_of e.key)) (hidden_in s)) es)
     go true d f g = f
     go false true f g = ap (λ l. e ∷ l) g
@@ -125,8 +125,8 @@ knows_kept : (hidden : Option Column) (e : Cell) (before es : List Cell) → Pas
 knows_kept hidden e before es p low h k = all_both (λ y. above e y ≡ false) (λ y. list_any (marker_beside y) before ≡ is_column hidden (column_of y.key)) (λ y. list_any (marker_beside y) (e ∷ before) ≡ is_column (hidden_past hidden e) (column_of y.key)) (λ y up r. one_kept hidden e y es before p up h r) es low k
 
 -- the pass gives the definition
-pass_is : (hidden : Option Column) (before list : List Cell) → Ascends above list → Passed hidden list → Knows hidden before list → kept is_unmarked before list ≡ mark_from hidden list
-unfolding kept Ascends
+pass_is : (hidden : Option Column) (before list : List Cell) → Ascends above list → Passed hidden list → Knows hidden before list → filter_beside is_unmarked before list ≡ mark_from hidden list
+unfolding filter_beside Ascends
 pass_is hidden before [] up p k = refl
 pass_is hidden before (e ∷ es) up p k = go (is_column hidden (column_of e.key)) refl (λ q s. pass_is hidden (e ∷ before) es up.1 q s) (λ q s. pass_is (hidden_past hidden e) (e ∷ before) es up.1 q s)
   where
@@ -134,9 +134,9 @@ pass_is hidden before (e ∷ es) up p k = go (is_column hidden (column_of e.key)
     by_test t true xs ys zs h f g = ap (λ c. cond c (e ∷ xs) xs) h ∙ f refl
     by_test t false xs ys zs h f g = ap (λ c. cond c (e ∷ xs) xs) h ∙ ap (λ l. e ∷ l) (g refl)
 
-    go : (b : Bool) → is_column hidden (column_of e.key) ≡ b → (Passed hidden es → Knows hidden (e ∷ before) es → kept is_unmarked (e ∷ before) es ≡ mark_from hidden es) → (Passed (hidden_past hidden e) es → Knows (hidden_past hidden e) (e ∷ before) es → kept is_unmarked (e ∷ before) es ≡ mark_from (hidden_past hidden e) es)
-        → cond (is_unmarked before e) (e ∷ kept is_unmarked (e ∷ before) es) (kept is_unmarked (e ∷ before) es) ≡ cond b (mark_from hidden es) (e ∷ mark_from (hidden_past hidden e) es)
-    go b h f g = by_test (is_unmarked before e) b (kept is_unmarked (e ∷ before) es) (mark_from hidden es) (mark_from (hidden_past hidden e) es) (unmarked_is before e ∙ ap not (k.0 ∙ h))
+    go : (b : Bool) → is_column hidden (column_of e.key) ≡ b → (Passed hidden es → Knows hidden (e ∷ before) es → filter_beside is_unmarked (e ∷ before) es ≡ mark_from hidden es) → (Passed (hidden_past hidden e) es → Knows (hidden_past hidden e) (e ∷ before) es → filter_beside is_unmarked (e ∷ before) es ≡ mark_from (hidden_past hidden e) es)
+        → cond (is_unmarked before e) (e ∷ filter_beside is_unmarked (e ∷ before) es) (filter_beside is_unmarked (e ∷ before) es) ≡ cond b (mark_from hidden es) (e ∷ mark_from (hidden_past hidden e) es)
+    go b h f g = by_test (is_unmarked before e) b (filter_beside is_unmarked (e ∷ before) es) (mark_from hidden es) (mark_from (hidden_past hidden e) es) (unmarked_is before e ∙ ap not (k.0 ∙ h))
         (λ t. f (passed_tail hidden e es p) (knows_hidden hidden e before es (h ∙ t) k.1))
         (λ t. g (passed_next hidden e es p up.0) (knows_kept hidden e before es p up.0 (h ∙ t) k.1))
 
@@ -145,11 +145,11 @@ nothing_before [] = tt
 nothing_before (y ∷ ys) = (refl, nothing_before ys)
 
 -- the pass over a list in order
-pub mark_pass : (s : MarkStage) (list : List Cell) → Ascends above list → kept_from keeps passed (unhidden s) list ≡ mark list
+pub mark_pass : (s : MarkStage) (list : List Cell) → Ascends above list → kept_from keeps after_entry (without_hidden s) list ≡ mark list
 unfolding mark
-mark_pass s list up = by_hidden (unhidden s) list ∙ sym (pass_is None [] list up tt (nothing_before list))
+mark_pass s list up = by_hidden (without_hidden s) list ∙ sym (pass_is None [] list up tt (nothing_before list))
 
 -- the range from the start's column on, from the start on
-pub mark_narrows : (s : Span) (list : List Cell) → Ascends above list → AreEntries list → from_first (λ e. is_behind s.start e.key) (mark (within (widened s) list)) ≡ within s (mark list)
+pub mark_narrows : (s : Span) (list : List Cell) → Ascends above list → AreEntries list → from_first (λ e. is_behind s.start e.key) (mark (within (widened_span s) list)) ≡ within s (mark list)
 unfolding mark
 mark_narrows s list up en = seek_kept is_unmarked unmarked_looks s list up en

@@ -18,9 +18,9 @@ abbrev pub keeps : MarkStage → Cell → Bool
 keeps s e = not (is_column (hidden_in s) (column_of e.key))
 
 -- behind an entry: a marker that is kept hides its column
-abbrev pub passed : MarkStage → Cell → MarkStage
-passed s e = cond (keeps s e && e.key.deleted) (record s { column = Some (column_of e.key); is_hiding = true }) s
+abbrev pub after_entry : MarkStage → Cell → MarkStage
+after_entry s e = cond (keeps s e && e.key.deleted) (record s { column = Some (column_of e.key); is_hiding = true }) s
 
 -- before a list
-abbrev pub unhidden : MarkStage → MarkStage
-unhidden s = record s { is_hiding = false }
+abbrev pub without_hidden : MarkStage → MarkStage
+without_hidden s = record s { is_hiding = false }

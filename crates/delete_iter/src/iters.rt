@@ -3,7 +3,7 @@ ghost use Rattle.std.specs.Prelude.{IfOk};
 ghost use Rattle.tablet_model.specs.Markers.{live, mark};
 ghost use Rattle.iter_contract.specs.Copies.{IsCopy};
 ghost use Rattle.stages.specs.StagedParts.{staged_cells, staged_rest, staged_steady, staged_valid};
-ghost use Rattle.delete_iter.specs.MarkStages.{mark_made, keeps, passed};
+ghost use Rattle.delete_iter.specs.MarkStages.{mark_made, keeps, after_entry};
 ghost use Rattle.delete_iter.specs.LiveStages.{live_made, live_keeps, live_passed};
 
 use crate::live_stage::LiveStage;

@@ -26,16 +26,16 @@ impl MarkStage {
 }
 
 impl Stage for MarkStage {
-    ghost use Rattle.delete_iter.specs.MarkStages.{mark_made, keeps, passed, unhidden};
+    ghost use Rattle.delete_iter.specs.MarkStages.{mark_made, keeps, after_entry, without_hidden};
     ghost use Rattle.delete_iter.specs.MarkPass.{mark_pass, mark_narrows};
 
     ghost made = { mark_made };
 
     ghost keeps = { keeps };
 
-    ghost passed = { passed };
+    ghost passed = { after_entry };
 
-    ghost restarted = { unhidden };
+    ghost restarted = { without_hidden };
 
     ghost wide = { λ _. true };
 

@@ -1,6 +1,6 @@
 //! The iterator of a filter over any source.
 ghost use Rattle.std.specs.Arc.{arc_value};
-ghost use Rattle.tablet_model.specs.Filters.{filtered};
+ghost use Rattle.tablet_model.specs.Filters.{filter_puts};
 ghost use Rattle.iter_config.specs.Predicates.{keeps};
 ghost use Rattle.iter_contract.specs.Copies.{IsCopy};
 ghost use Rattle.stages.specs.StagedParts.{staged_cells, staged_rest, staged_steady, staged_valid};
@@ -24,7 +24,7 @@ pub fn filter_iter<S: SortedSource>(
     negate: bool,
 ) -> FilterIter<S>
     requires { S.valid source }
-    ensures { IsCopy (filtered (keeps (arc_value predicate) negate) (S.cells source)) (S.steady source)
+    ensures { IsCopy (filter_puts (keeps (arc_value predicate) negate) (S.cells source)) (S.steady source)
         (staged_cells S.cells filter_made result) (staged_rest S.rest passes same result)
         (staged_steady S.steady result) (staged_valid S.valid result) }
 {

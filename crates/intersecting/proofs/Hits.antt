@@ -6,8 +6,8 @@ use Rattle.std.proofs.lemmas.Cmp.{upto}
 use Rattle.tablet_model.specs.Cell.{Cell}
 use Rattle.tablet_model.specs.Order.{above, bytes_cmp}
 use Rattle.tablet_model.specs.Sorted.{Ascends}
-use Rattle.tablet_model.specs.Kept.{kept}
-use Rattle.tablet_model.specs.Rows.{same_bytes, same_row, has_term, is_hit, leads_hit, intersect, intersected, last_time}
+use Rattle.tablet_model.specs.Kept.{filter_beside}
+use Rattle.tablet_model.specs.Rows.{same_bytes, same_row, has_term, is_hit, leads_hit, intersect, intersect_terms, last_time}
 use Rattle.tablet_model.proofs.Sums.{all_weaker}
 use Rattle.tablet_model.proofs.CutLemmas.{ge_back}
 use Rattle.tablet_model.proofs.Maps.{all_map}
@@ -50,15 +50,15 @@ module _ (first : List ℕ) (others without : List (List ℕ)) (list : List Cell
       both : same_bytes first e.key.family ≡ true → is_under e first e ≡ true
       both f = rw (same_texts_itself e.key.row e.key.row refl, f, same_texts_itself e.key.qualifier e.key.qualifier refl) refl
 
-  all_hits : (before part : List Cell) → AllByRecursion (Met list) part → AllByRecursion (IsHit (first ∷ others) without list) (map document_entry (kept leads before part))
-  unfolding kept
+  all_hits : (before part : List Cell) → AllByRecursion (Met list) part → AllByRecursion (IsHit (first ∷ others) without list) (map document_entry (filter_beside leads before part))
+  unfolding filter_beside
   all_hits before [] m = tt
   all_hits before (y ∷ ys) m = go (leads before y) refl (all_hits (y ∷ before) ys m.1)
     where
       hit : leads before y ≡ true → IsHit (first ∷ others) without list (document_entry y)
       hit l = record { shaped = refl; matching = same_matches (first ∷ others) without list (document_entry y) y refl refl ∙ hit_matches y (leads_hits first others without list before y l) m.0 }
 
-      go : (b : Bool) → leads before y ≡ b → AllByRecursion (IsHit (first ∷ others) without list) (map document_entry (kept leads (y ∷ before) ys)) → AllByRecursion (IsHit (first ∷ others) without list) (map document_entry (cond b (y ∷ kept leads (y ∷ before) ys) (kept leads (y ∷ before) ys)))
+      go : (b : Bool) → leads before y ≡ b → AllByRecursion (IsHit (first ∷ others) without list) (map document_entry (filter_beside leads (y ∷ before) ys)) → AllByRecursion (IsHit (first ∷ others) without list) (map document_entry (cond b (y ∷ filter_beside leads (y ∷ before) ys) (filter_beside leads (y ∷ before) ys)))
       go true l rest = (hit l, rest)
       go false l rest = rest
 
@@ -94,27 +94,27 @@ module _ (first : List ℕ) (others without : List (List ℕ)) (list : List Cell
       ∙ ap (λ o. is_eq (ordering_then o (bytes_cmp y.key.qualifier k.key.qualifier))) (itself k.key.row)
       ∙ ap (λ document. is_eq (bytes_cmp document k.key.qualifier)) (sym q) ∙ ap is_eq (itself k.key.qualifier)
 
-  has_hit : (k : Cell) (before part : List Cell) → matches (first ∷ others) without list k ≡ true → list_any (is_under k first) part ≡ true → list_any (is_under k first) before ≡ false → list_any (is_of k) (map document_entry (kept leads before part)) ≡ true
-  unfolding kept
+  has_hit : (k : Cell) (before part : List Cell) → matches (first ∷ others) without list k ≡ true → list_any (is_under k first) part ≡ true → list_any (is_under k first) before ≡ false → list_any (is_of k) (map document_entry (filter_beside leads before part)) ≡ true
+  unfolding filter_beside
   has_hit k before [] h a m = a
   has_hit k before (y ∷ ys) h a m = go (is_under k first y) refl (λ u. has_hit k (y ∷ before) ys h (sym (ap (λ b. b || list_any (is_under k first) ys) u) ∙ a) (ap (λ b. b || list_any (is_under k first) before) u ∙ m))
     where
-      here : is_under k first y ≡ true → list_any (is_of k) (map document_entry (cond (leads before y) (y ∷ kept leads (y ∷ before) ys) (kept leads (y ∷ before) ys))) ≡ true
+      here : is_under k first y ≡ true → list_any (is_of k) (map document_entry (cond (leads before y) (y ∷ filter_beside leads (y ∷ before) ys) (filter_beside leads (y ∷ before) ys))) ≡ true
       here u =
           let parts = under_parts k y u in
-          ap (λ b. list_any (is_of k) (map document_entry (cond b (y ∷ kept leads (y ∷ before) ys) (kept leads (y ∷ before) ys)))) (leads_here k y before h u m)
-          ∙ ap (λ b. b || list_any (is_of k) (map document_entry (kept leads (y ∷ before) ys))) (tied k y parts.0 parts.2)
+          ap (λ b. list_any (is_of k) (map document_entry (cond b (y ∷ filter_beside leads (y ∷ before) ys) (filter_beside leads (y ∷ before) ys)))) (leads_here k y before h u m)
+          ∙ ap (λ b. b || list_any (is_of k) (map document_entry (filter_beside leads (y ∷ before) ys))) (tied k y parts.0 parts.2)
 
-      later : (b : Bool) → list_any (is_of k) (map document_entry (kept leads (y ∷ before) ys)) ≡ true → list_any (is_of k) (map document_entry (cond b (y ∷ kept leads (y ∷ before) ys) (kept leads (y ∷ before) ys))) ≡ true
+      later : (b : Bool) → list_any (is_of k) (map document_entry (filter_beside leads (y ∷ before) ys)) ≡ true → list_any (is_of k) (map document_entry (cond b (y ∷ filter_beside leads (y ∷ before) ys) (filter_beside leads (y ∷ before) ys))) ≡ true
       later true i = or_true (is_of k (document_entry y)) i
         where
-          or_true : (c : Bool) → list_any (is_of k) (map document_entry (kept leads (y ∷ before) ys)) ≡ true → (c || list_any (is_of k) (map document_entry (kept leads (y ∷ before) ys))) ≡ true
+          or_true : (c : Bool) → list_any (is_of k) (map document_entry (filter_beside leads (y ∷ before) ys)) ≡ true → (c || list_any (is_of k) (map document_entry (filter_beside leads (y ∷ before) ys))) ≡ true
           or_true true i = refl
           or_true false i = i
       later false i = i
 
-      go : (b : Bool) → is_under k first y ≡ b → (is_under k first y ≡ false → list_any (is_of k) (map document_entry (kept leads (y ∷ before) ys)) ≡ true)
-          → list_any (is_of k) (map document_entry (cond (leads before y) (y ∷ kept leads (y ∷ before) ys) (kept leads (y ∷ before) ys))) ≡ true
+      go : (b : Bool) → is_under k first y ≡ b → (is_under k first y ≡ false → list_any (is_of k) (map document_entry (filter_beside leads (y ∷ before) ys)) ≡ true)
+          → list_any (is_of k) (map document_entry (cond (leads before y) (y ∷ filter_beside leads (y ∷ before) ys) (filter_beside leads (y ∷ before) ys))) ≡ true
       go true u i = here u
       go false u i = later (leads before y) (i u)
 
@@ -131,8 +131,8 @@ members (x ∷ xs) = (
     or_right true b h = refl
     or_right false b h = h
 
-pub hits_match : (terms without : List (List ℕ)) (list : List Cell) → AllByRecursion (IsHit terms without list) (intersected terms without list)
-unfolding intersected intersect
+pub hits_match : (terms without : List (List ℕ)) (list : List Cell) → AllByRecursion (IsHit terms without list) (intersect_terms terms without list)
+unfolding intersect_terms intersect
 hits_match [] without list = tt
 hits_match (first ∷ others) without list = all_hits first others without list [] list (members list)
 
@@ -141,10 +141,10 @@ unfolding document_cmp
 shaped_rise [] h = tt
 shaped_rise (x ∷ xs) h = (all_map (λ y. document_cmp x.key y.key ≡ Less) (λ y. document_cmp x.key y.key ≡ Less) document_entry (λ y k. k) xs h.0, shaped_rise xs h.1)
 
-hits_rise : (terms without : List (List ℕ)) (list : List Cell) → Ascends above list → Rises (intersected terms without list)
-unfolding intersected intersect
+hits_rise : (terms without : List (List ℕ)) (list : List Cell) → Ascends above list → Rises (intersect_terms terms without list)
+unfolding intersect_terms intersect
 hits_rise [] without list up = tt
-hits_rise (first ∷ others) without list up = shaped_rise (kept (leads_hit first others without list) [] list) (kept_rises first others without list [] list up)
+hits_rise (first ∷ others) without list up = shaped_rise (filter_beside (leads_hit first others without list) [] list) (kept_rises first others without list [] list up)
 
 has_first : (first : List ℕ) (others without : List (List ℕ)) (list : List Cell) (k : Cell) → matches (first ∷ others) without list k ≡ true → list_any (is_under k first) list ≡ true
 unfolding matches has_term same_row
@@ -153,8 +153,8 @@ has_first first others without list k h = left (list_any (is_under k first) list
     left : (a b c : Bool) → ((a && b) && c) ≡ true → a ≡ true
     left a b c h = grind arith
 
-hits_have : (terms without : List (List ℕ)) (list : List Cell) (k : Cell) → 1 ≤ length terms → matches terms without list k ≡ true → list_any (λ d. is_eq (document_cmp d.key k.key)) (intersected terms without list) ≡ true
-unfolding intersected intersect
+hits_have : (terms without : List (List ℕ)) (list : List Cell) (k : Cell) → 1 ≤ length terms → matches terms without list k ≡ true → list_any (λ d. is_eq (document_cmp d.key k.key)) (intersect_terms terms without list) ≡ true
+unfolding intersect_terms intersect
 hits_have [] without list k l h = absurd (omega arith)
 hits_have (first ∷ others) without list k l h = has_hit first others without list k [] list h (has_first first others without list k h) refl
 
@@ -219,9 +219,9 @@ module _ (k : Cell) where
 
 -- the documents from one on that matches: its entry, and those behind it
 pub from_hit : (terms without : List (List ℕ)) (list : List Cell) (k : Cell) → Ascends above list → 1 ≤ length terms → matches terms without list k ≡ true
-    → filter (lies_from false k) (intersected terms without list) ≡ document_entry k ∷ filter (lies_from true k) (intersected terms without list)
+    → filter (lies_from false k) (intersect_terms terms without list) ≡ document_entry k ∷ filter (lies_from true k) (intersect_terms terms without list)
 from_hit terms without list k up some h =
-    from_one k terms without list (intersected terms without list) (hits_rise terms without list up) (hits_match terms without list) (hits_have terms without list k some h)
+    from_one k terms without list (intersect_terms terms without list) (hits_rise terms without list up) (hits_match terms without list) (hits_have terms without list k some h)
 
 -- a term that such a document has
 pub matches_first : (terms without : List (List ℕ)) (list : List Cell) (d : Cell) → 1 ≤ length terms → matches terms without list d ≡ true → (term : List ℕ) × (has_term list d term ≡ true)

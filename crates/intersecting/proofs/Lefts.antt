@@ -10,7 +10,7 @@ use Rattle.tablet_model.proofs.CutLemmas.{before_down, key_le}
 use Rattle.tablet_model.proofs.Orders.{above_exact}
 use Rattle.tablet_model.proofs.Seeks.{filter_both, filter_same}
 use Rattle.tablet_model.proofs.Sums.{all_weaker, Ascends-filter}
-use Rattle.tablet_model.specs.Rows.{has_term, intersected}
+use Rattle.tablet_model.specs.Rows.{has_term, intersect_terms}
 use Rattle.intersecting.specs.Documents.{document_key, document_entry, matches}
 use Rattle.intersecting.specs.IntersectLaws.{Ascends-intersected}
 use Rattle.intersecting.specs.Searches.{lies_from, place, IsSearch}
@@ -22,7 +22,7 @@ use Rattle.intersecting.proofs.Hits.{IsHit, hits_match, from_hit, matches_first}
 
 module _ (terms without : List (List ℕ)) (list : List Cell) where
   abbrev hits : List Cell
-  hits = intersected terms without list
+  hits = intersect_terms terms without list
 
   none_pass : (p : Cell → Bool) (xs : List Cell) → AllByRecursion (λ x. p x ≡ false) xs → filter p xs ≡ []
   none_pass p [] h = refl

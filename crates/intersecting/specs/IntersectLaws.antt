@@ -8,8 +8,8 @@ use Rattle.std.proofs.lemmas.Map.Lookups.{exact_bytes}
 use Rattle.tablet_model.specs.Cell.{Cell}
 use Rattle.tablet_model.specs.Order.{above, cell_cmp, key_cmp, column_cmp, bytes_cmp}
 use Rattle.tablet_model.specs.Sorted.{Ascends}
-use Rattle.tablet_model.specs.Kept.{kept}
-use Rattle.tablet_model.specs.Rows.{same_bytes, same_row, is_hit, leads_hit, intersect, intersected}
+use Rattle.tablet_model.specs.Kept.{filter_beside}
+use Rattle.tablet_model.specs.Rows.{same_bytes, same_row, is_hit, leads_hit, intersect, intersect_terms}
 use Rattle.tablet_model.proofs.CutLemmas.{key_le}
 use Rattle.tablet_model.proofs.Maps.{all_map}
 use Rattle.intersecting.specs.Documents.{document_entry}
@@ -112,22 +112,22 @@ module _ (first : List ℕ) (others without : List (List ℕ)) (list : List Cell
   not_met e y before m h false k = refl
   not_met e y before m h true k = sym (m (beside y) k) ∙ h
 
-  rise_on : (e : Cell) (before part : List Cell) → same_bytes first e.key.family ≡ true → Met e before → AllByRecursion (λ y. above e y ≡ false) part → AllByRecursion (λ y. document_cmp e.key y.key ≡ Less) (kept leads before part)
-  unfolding kept
+  rise_on : (e : Cell) (before part : List Cell) → same_bytes first e.key.family ≡ true → Met e before → AllByRecursion (λ y. above e y ≡ false) part → AllByRecursion (λ y. document_cmp e.key y.key ≡ Less) (filter_beside leads before part)
+  unfolding filter_beside
   rise_on e before [] f m a = tt
   rise_on e before (y ∷ ys) f m a = go (leads before y) refl (rise_on e (y ∷ before) ys f (met_more e y before m) a.1)
     where
-      go : (b : Bool) → leads before y ≡ b → AllByRecursion (λ y. document_cmp e.key y.key ≡ Less) (kept leads (y ∷ before) ys) → AllByRecursion (λ y. document_cmp e.key y.key ≡ Less) (cond b (y ∷ kept leads (y ∷ before) ys) (kept leads (y ∷ before) ys))
+      go : (b : Bool) → leads before y ≡ b → AllByRecursion (λ y. document_cmp e.key y.key ≡ Less) (filter_beside leads (y ∷ before) ys) → AllByRecursion (λ y. document_cmp e.key y.key ≡ Less) (cond b (y ∷ filter_beside leads (y ∷ before) ys) (filter_beside leads (y ∷ before) ys))
       go true l rest = (below e y f (of_first y (leads_hits before y l)) a.0 (not_met e y before m (leads_first before y l) (beside y e) refl), rest)
       go false l rest = rest
 
   -- what leads documents rises with them
-  pub kept_rises : (before part : List Cell) → Ascends above part → Rises (kept leads before part)
-  unfolding kept Ascends
+  pub kept_rises : (before part : List Cell) → Ascends above part → Rises (filter_beside leads before part)
+  unfolding filter_beside Ascends
   kept_rises before [] up = tt
   kept_rises before (e ∷ es) up = go (leads before e) refl (kept_rises (e ∷ before) es up.1)
     where
-      go : (b : Bool) → leads before e ≡ b → Rises (kept leads (e ∷ before) es) → Rises (cond b (e ∷ kept leads (e ∷ before) es) (kept leads (e ∷ before) es))
+      go : (b : Bool) → leads before e ≡ b → Rises (filter_beside leads (e ∷ before) es) → Rises (cond b (e ∷ filter_beside leads (e ∷ before) es) (filter_beside leads (e ∷ before) es))
       go true l rest = (rise_on e (e ∷ before) es (of_first e (leads_hits before e l)) (met_first e before) up.0, rest)
       go false l rest = rest
 
@@ -148,7 +148,7 @@ Ascends-entries [] h = tt
 Ascends-entries (x ∷ xs) h = (all_map (λ y. document_cmp x.key y.key ≡ Less) (λ y. above (document_entry x) y ≡ false) document_entry (λ y. entry_order x y) xs h.0, Ascends-entries xs h.1)
 
 -- they are in order
-pub Ascends-intersected : (terms without : List (List ℕ)) (list : List Cell) → Ascends above list → Ascends above (intersected terms without list)
-unfolding intersected intersect Ascends
+pub Ascends-intersected : (terms without : List (List ℕ)) (list : List Cell) → Ascends above list → Ascends above (intersect_terms terms without list)
+unfolding intersect_terms intersect Ascends
 Ascends-intersected [] without list up = tt
-Ascends-intersected (first ∷ others) without list up = Ascends-entries (kept (leads_hit first others without list) [] list) (kept_rises first others without list [] list up)
+Ascends-intersected (first ∷ others) without list up = Ascends-entries (filter_beside (leads_hit first others without list) [] list) (kept_rises first others without list [] list up)

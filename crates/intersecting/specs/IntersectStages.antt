@@ -3,14 +3,14 @@ use Rattle.std.specs.Prelude.{◌≡◌, ℕ, ◌+◌, ◌≤◌, ◌&&◌, true
 use Rattle.std.specs.Arc.{arc_value}
 use Rattle.tablet_model.specs.Cell.{Cell}
 use Rattle.tablet_model.specs.Cuts.{is_before}
-use Rattle.tablet_model.specs.Rows.{intersected}
+use Rattle.tablet_model.specs.Rows.{intersect_terms}
 use Rattle.intersecting.specs.Documents.{matches}
 use Rattle.intersecting.specs.Searches.{lies_from, place}
 use Rattle.intersecting.specs.declared.stage.IntersectStage.{IntersectStage}
 
 -- the documents that match
 abbrev pub intersect_cells : IntersectStage → List Cell → List Cell
-intersect_cells stage cells = intersected (arc_value stage.terms) (arc_value stage.without) cells
+intersect_cells stage cells = intersect_terms (arc_value stage.terms) (arc_value stage.without) cells
 
 -- the documents that are left: from the kept one on, before the end of the range
 abbrev pub intersect_left : IntersectStage → List Cell → List Cell

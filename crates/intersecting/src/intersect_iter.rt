@@ -25,7 +25,7 @@ impl<S: SortedSource> IntersectIter<S> {
     ghost use Rattle.std.specs.Prelude.{◌≤◌, ◌+◌, false, length, IfOk};
     ghost use Rattle.std.specs.Arc.{arc_value};
     ghost use Rattle.iter_contract.specs.Copies.{IsCopy};
-    ghost use Rattle.tablet_model.specs.Rows.{intersected};
+    ghost use Rattle.tablet_model.specs.Rows.{intersect_terms};
     ghost use Rattle.intersecting.specs.IntersectParts.{iter_cells, iter_rest, iter_steady, iter_valid};
 
     /// An iterator over a source, which may have been sought or not, for documents that have all of `terms`, at least one, and none
@@ -40,7 +40,7 @@ impl<S: SortedSource> IntersectIter<S> {
         requires valid { S.valid source }
         requires some { 1 ≤ length (arc_value terms) }
         requires few { length (arc_value terms) + length (arc_value without) ≤ 16 }
-        ensures { IfOk result (λ it. IsCopy (intersected (arc_value terms) (arc_value without) (S.cells source)) false
+        ensures { IfOk result (λ it. IsCopy (intersect_terms (arc_value terms) (arc_value without) (S.cells source)) false
             (iter_cells S.cells it) (iter_rest S.cells it) (iter_steady it) (iter_valid S.cells S.valid it)) }
     {
         let copies = terms.len() - 1 + without.len();

@@ -26,8 +26,8 @@ use Rattle.iter_config.specs.declared.predicate.Predicate.{Predicate}
 use Rattle.iter_config.specs.declared.predicate.Predicate.TheVariants.{Family, QualifierSlice, VisibilitySet, Grep, Times}
 use Rattle.iter_config.proofs.FilterStages.{filter_is}
 use Rattle.iter_config.proofs.Meeting.{apart_columns}
-use Rattle.iter_config.proofs.Truths.{behind_false, both_false, not_false, true_false}
-use Rattle.iter_config.proofs.Prefixes.{filter_none, is_behind, map_all}
+use Rattle.tablet_model.proofs.Bools.{neither-of-or, never-both, true-of-not}
+use Rattle.iter_config.proofs.Prefixes.{behind_false, filter_none, is_behind, map_all}
 
 pub one_column : (c e : Cell) → same_column c e ≡ true → column_of e.key ≡ column_of c.key
 one_column c e h = sym (exact_columns (column_of c.key) (column_of e.key) (columns_tie c e h))
@@ -81,12 +81,12 @@ allows (Filter p negate) (Versions max) only other h apart = filter_is (λ s. Al
 allows (Filter p negate) (Combine op columns encoding deletes) only other h apart =
     filter_is (λ s. AllowsBehind s (stage_of (Combine op columns encoding deletes))) p negate (λ e. tt) (λ e. absurd (let t : true ≡ false = rw e at h in cc))
 allows (Versions n) (Filter q opposite) only other h apart =
-    let tests : not (is_of_column q) ≡ false = (both_false (not (is_of_column q)) false (both_false (not (is_of_column q) || false) false h).0).0 in
-    filter_is IsColumnFilter q opposite (λ e. tt) (λ e. true_false (is_of_column q) (not_false (is_of_column q) tests) e)
+    let tests : not (is_of_column q) ≡ false = (neither-of-or (not (is_of_column q)) false (neither-of-or (not (is_of_column q) || false) false h).0).0 in
+    filter_is IsColumnFilter q opposite (λ e. tt) (λ e. never-both (is_of_column q) (true-of-not (is_of_column q) tests) e)
 allows (Versions n) (Versions max) only other h apart = absurd (let t : true ≡ false = h in cc)
 allows (Versions n) (Combine op columns encoding deletes) only other h apart = absurd (let t : true ≡ false = h in cc)
 allows (Combine op columns encoding deletes) (Filter q opposite) only other h apart =
-    filter_is (IsBeside (column_listed columns)) q opposite (λ e. tt) (λ e. true_false (is_of_column q) (not_false (is_of_column q) h) e)
+    filter_is (IsBeside (column_listed columns)) q opposite (λ e. tt) (λ e. never-both (is_of_column q) (true-of-not (is_of_column q) h) e)
 allows (Combine op columns encoding deletes) (Versions max) only other h apart = tt
 allows (Combine op columns encoding deletes) (Combine o others e d) only other h apart = λ (c : Cell) k. apart_columns columns others c.key.family c.key.qualifier apart k
 allows (Filter p negate) WholeRow only other h apart = absurd (let t : true ≡ false = other in cc)

@@ -1,4 +1,3 @@
-pub mod Truths
 pub mod Views
 pub mod Ordering
 pub mod Repeats

@@ -6,7 +6,7 @@ use Rattle.std.specs.Str.{bytes_eq}
 use Rattle.cell_key.specs.Listed.{has_qualifier, is_listed, is_named}
 use Rattle.cell_key.specs.declared.column_name.ColumnName.{ColumnName}
 use Rattle.iter_config.specs.Rules.{names_meet, qualifiers_meet}
-use Rattle.iter_config.proofs.Truths.{and_true, both_false, both_true, true_false}
+use Rattle.tablet_model.proofs.Bools.{and-of-both, both-of-and, neither-of-or, never-both}
 
 -- two names of one column meet
 bytes_meet : (p r q : List ℕ) → bytes_eq p q ≡ true → bytes_eq r q ≡ true → bytes_eq p r ≡ true
@@ -19,21 +19,21 @@ parts_meet (Some p) (Some r) q h k = bytes_meet p r q h k
 
 meet : (n m : ColumnName) (family qualifier : List ℕ) → is_named family qualifier n ≡ true → is_named family qualifier m ≡ true → names_meet n m ≡ true
 meet n m family qualifier h k =
-    let (q, f) = both_true (has_qualifier n.qualifier qualifier) (bytes_eq n.family family) h in
-    let (r, g) = both_true (has_qualifier m.qualifier qualifier) (bytes_eq m.family family) k in
-    and_true (bytes_eq n.family m.family) (qualifiers_meet n.qualifier m.qualifier) (bytes_meet n.family m.family family f g) (parts_meet n.qualifier m.qualifier qualifier q r)
+    let (q, f) = both-of-and (has_qualifier n.qualifier qualifier) (bytes_eq n.family family) h in
+    let (r, g) = both-of-and (has_qualifier m.qualifier qualifier) (bytes_eq m.family family) k in
+    and-of-both (bytes_eq n.family m.family) (qualifiers_meet n.qualifier m.qualifier) (bytes_meet n.family m.family family f g) (parts_meet n.qualifier m.qualifier qualifier q r)
 
 unnamed : (n m : ColumnName) (family qualifier : List ℕ) → is_named family qualifier n ≡ true → names_meet n m ≡ false → is_named family qualifier m ≡ false
 unnamed n m family qualifier h k = go (is_named family qualifier m) refl
   where
     go : (b : Bool) → is_named family qualifier m ≡ b → b ≡ false
-    go true e = true_false (names_meet n m) (meet n m family qualifier h e) k
+    go true e = never-both (names_meet n m) (meet n m family qualifier h e) k
     go false e = refl
 
 unlisted : (n : ColumnName) (ms : List ColumnName) (family qualifier : List ℕ) → is_named family qualifier n ≡ true → list_any (names_meet n) ms ≡ false → is_listed ms family qualifier ≡ false
 unlisted n [] family qualifier h k = refl
 unlisted n (m ∷ ms) family qualifier h k =
-    let (here, later) = both_false (names_meet n m) (list_any (names_meet n) ms) k in
+    let (here, later) = neither-of-or (names_meet n m) (list_any (names_meet n) ms) k in
     ap (λ b. b || is_listed ms family qualifier) (unnamed n m family qualifier h here) ∙ unlisted n ms family qualifier h later
 
 -- lists without a column in common
@@ -43,7 +43,7 @@ apart_columns [] ms family qualifier k h = absurd (let t : false ≡ true = h in
 apart_columns (n ∷ ns) ms family qualifier k h = go (is_named family qualifier n) refl h (apart_columns ns ms family qualifier parts.1)
   where
     parts : (list_any (names_meet n) ms ≡ false) × (list_any (λ n. list_any (names_meet n) ms) ns ≡ false)
-    parts = both_false (list_any (names_meet n) ms) (list_any (λ n. list_any (names_meet n) ms) ns) k
+    parts = neither-of-or (list_any (names_meet n) ms) (list_any (λ n. list_any (names_meet n) ms) ns) k
 
     go : (b : Bool) → is_named family qualifier n ≡ b → (b || is_listed ns family qualifier) ≡ true → (is_listed ns family qualifier ≡ true → is_listed ms family qualifier ≡ false) → is_listed ms family qualifier ≡ false
     go true e t later = unlisted n ms family qualifier e parts.0

@@ -12,7 +12,11 @@ use Rattle.iter_config.specs.Rules.{in_base, leaves_gap}
 use Rattle.iter_config.specs.RulesOf.{rules_of, scans_alone}
 use Rattle.iter_config.specs.Stages.{stage_of, stages_of}
 use Rattle.iter_config.specs.declared.iter_spec.IterSpec.{IterSpec}
-use Rattle.iter_config.proofs.Truths.{behind_false}
+
+pub behind_false : (a b : Bool) → a ≡ false → (b && not a) ≡ false → b ≡ false
+behind_false true b e h = absurd (let k : true ≡ false = e in cc)
+behind_false false true e h = h
+behind_false false false e h = refl
 
 unpassed : (q b : Bool) → b ≡ false → (q && not b) ≡ q
 unpassed true true h = absurd (let k : true ≡ false = h in cc)

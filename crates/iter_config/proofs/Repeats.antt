@@ -6,7 +6,7 @@ use Rattle.std.proofs.lemmas.List.Elements.{All-from_recursion}
 use Rattle.std.proofs.lemmas.List.Folds.{list_any-append}
 use Rattle.iter_config.specs.Rules.{all_scopes, combines_behind, first_beyond_scans, first_clash, first_gap, first_unscanned, is_combiner, is_scan_only, leaves_gap, leaves_scans, number_by, scopes_gap}
 use Rattle.iter_config.specs.declared.iter_spec.IterSpec.{IterSpec}
-use Rattle.iter_config.proofs.Truths.{both_false}
+use Rattle.tablet_model.proofs.Bools.{neither-of-or}
 
 module _ (number : List IterSpec → IterSpec → ℕ) (clash : IterSpec → IterSpec → Bool) where
   abbrev search_from : List IterSpec → ℕ → Option ℕ
@@ -39,9 +39,9 @@ module _ (number : List IterSpec → IterSpec → ℕ) (clash : IterSpec → Ite
   split_last : (before : List IterSpec) (s : IterSpec) (ss : List IterSpec) → AreApart (before ++ s ∷ []) ss → AreApart before ss × AllByRecursion (λ r. clash s r ≡ false) ss
   split_last before s [] h = (tt, tt)
   split_last before s (r ∷ rs) h =
-      let (front, back) = both_false (list_any (λ t. clash t r) before) (list_any (λ t. clash t r) (s ∷ [])) (sym (list_any-append (λ t. clash t r) before (s ∷ [])) ∙ h.0) in
+      let (front, back) = neither-of-or (list_any (λ t. clash t r) before) (list_any (λ t. clash t r) (s ∷ [])) (sym (list_any-append (λ t. clash t r) before (s ∷ [])) ∙ h.0) in
       let rest = split_last before s rs h.1 in
-      ((front, rest.0), ((both_false (clash s r) false back).0, rest.1))
+      ((front, rest.0), ((neither-of-or (clash s r) false back).0, rest.1))
 
   apart : (before ss : List IterSpec) → first_clash number clash before ss ≡ None → AreApart before ss × IsDistinct clash ss
   unfolding IsDistinct

@@ -18,7 +18,7 @@ use Rattle.iter_config.specs.declared.iter_spec.Kind.{Kind}
 use Rattle.iter_config.specs.declared.iter_spec.Kind.TheVariants.{Filter, Versions, Combine, WholeRow, Intersecting}
 use Rattle.iter_config.proofs.Following.{all_short, base_accepted, one_column, scans_apart}
 use Rattle.iter_config.proofs.FilterStages.{filter_is}
-use Rattle.iter_config.proofs.Truths.{both_false, not_true}
+use Rattle.tablet_model.proofs.Bools.{false-of-not, neither-of-or}
 use Rattle.iter_config.proofs.Prefixes.{base_first, majc_first, minc_first, stands_first}
 
 -- the iterators of major compactions
@@ -119,7 +119,7 @@ deletable e [] h = tt
 deletable e (s ∷ ss) h = go s.scopes.majc (deletable e ss parts.1)
   where
     parts : (kind_refuses e.key.family e.key.qualifier s.kind ≡ false) × (refuses_delete ss e.key.family e.key.qualifier ≡ false)
-    parts = both_false (kind_refuses e.key.family e.key.qualifier s.kind) (refuses_delete ss e.key.family e.key.qualifier) h
+    parts = neither-of-or (kind_refuses e.key.family e.key.qualifier s.kind) (refuses_delete ss e.key.family e.key.qualifier) h
 
     go : (b : Bool) → AllByRecursion (IsDeletable e) (stages_of (majors ss)) → AllByRecursion (IsDeletable e) (stages_of (cond b (s ∷ majors ss) (majors ss)))
     go true later = (deletable_kind e s.kind parts.0, later)
@@ -147,5 +147,5 @@ sound specs h = record {
   plain_columns = λ c e same. refl;
   delete_columns = λ c e same. ap (λ (k : Column). not (refuses_delete specs k.family k.qualifier)) (one_column c e same);
   plain_deletes = λ e may. refl;
-  deletable = λ e may. deletable e specs (not_true (refuses_delete specs e.key.family e.key.qualifier) may);
+  deletable = λ e may. deletable e specs (false-of-not (refuses_delete specs e.key.family e.key.qualifier) may);
 }

@@ -57,15 +57,15 @@ abbrev pub priorities_of : List IterSpec → List ℕ
 priorities_of specs = map (λ s. s.priority) specs
 
 -- the configuration of iterators: no two share a name or a priority, and in priority order they keep the other rules
-unfoldable pub accepted : List IterSpec → Result (List IterSpec) Fault
-accepted specs =
+unfoldable pub config_of_iterators : List IterSpec → Result (List IterSpec) Fault
+config_of_iterators specs =
     broken_by Name (first_repeat Name specs)
     (broken_by Priority (first_repeat Priority specs)
     (in_order (priorities_of specs) (in_priority_order specs)))
 
 -- the configuration of iterators that were read
 abbrev pub config_from : Result (List IterSpec) Fault → Result (List IterSpec) Fault
-config_from (Ok specs) = accepted specs
+config_from (Ok specs) = config_of_iterators specs
 config_from (Err f) = Err f
 
 -- the configuration of a document, if there is one

@@ -48,11 +48,11 @@ in_front spec (Ok specs) = Ok (spec ∷ specs)
 in_front spec (Err f) = Err f
 
 -- the iterator number n in front of the others; if its table describes none, that is the first fault
-abbrev pub numbered : ℕ → Option IterSpec → Result (List IterSpec) Fault → Result (List IterSpec) Fault
-numbered n None rest = Err (fault Field n)
-numbered n (Some spec) rest = in_front spec rest
+abbrev pub with_iterator : ℕ → Option IterSpec → Result (List IterSpec) Fault → Result (List IterSpec) Fault
+with_iterator n None rest = Err (fault Field n)
+with_iterator n (Some spec) rest = in_front spec rest
 
 -- the iterators of an array, numbered from n
 abbrev pub iterators_from : ℕ → Items → Result (List IterSpec) Fault
 iterators_from n no_items = Ok []
-iterators_from n (item d ds) = numbered n (iterator_of d) (iterators_from (n + 1) ds)
+iterators_from n (item d ds) = with_iterator n (iterator_of d) (iterators_from (n + 1) ds)

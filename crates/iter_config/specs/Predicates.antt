@@ -35,16 +35,16 @@ has_needle needle e =
     has_within needle e.key.row || has_within needle e.key.family || has_within needle e.key.qualifier || has_within needle e.key.visibility || has_within needle e.value
 
 -- whether a test holds of an entry
-abbrev pub holds : Predicate → Cell → Bool
-holds (Family families) e = has_family (Some families) e.key.family
-holds (QualifierSlice from to) e = is_from from e.key.qualifier && is_up_to to e.key.qualifier
-holds (VisibilitySet visibilities) e = has_family (Some visibilities) e.key.visibility
-holds (Grep needle) e = has_needle needle e
-holds (Times from to) e = is_le (int_cmp from e.key.time) && is_le (int_cmp e.key.time to)
+abbrev pub matches : Predicate → Cell → Bool
+matches (Family families) e = has_family (Some families) e.key.family
+matches (QualifierSlice from to) e = is_from from e.key.qualifier && is_up_to to e.key.qualifier
+matches (VisibilitySet visibilities) e = has_family (Some visibilities) e.key.visibility
+matches (Grep needle) e = has_needle needle e
+matches (Times from to) e = is_le (int_cmp from e.key.time) && is_le (int_cmp e.key.time to)
 
 -- whether a filter keeps an entry that is no marker: where its test holds, or with `negate` where it doesn't
 unfoldable pub keeps : Predicate → Bool → Cell → Bool
-keeps predicate negate e = cond negate (not (holds predicate e)) (holds predicate e)
+keeps predicate negate e = cond negate (not (matches predicate e)) (matches predicate e)
 
 -- whether a test looks at the column alone
 abbrev pub is_of_column : Predicate → Bool

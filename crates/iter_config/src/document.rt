@@ -2,7 +2,7 @@
 ghost use Rattle.std.specs.Prelude.{◌≡◌, ◌≤◌, IfOk, All, length};
 ghost use Rattle.std.specs.List.Sorted.{IsNonDecreasingBy};
 ghost use Rattle.toml.specs.View.{table_view};
-ghost use Rattle.iter_config.specs.Document.{accepted, config_from, config_of, in_order, iterators_of, priorities_of};
+ghost use Rattle.iter_config.specs.Document.{config_of_iterators, config_from, config_of, in_order, iterators_of, priorities_of};
 ghost use Rattle.iter_config.specs.Faults.{Reads};
 ghost use Rattle.iter_config.specs.Limits.{IsLimited};
 ghost use Rattle.iter_config.specs.Order.{NoneClashes, in_priority_order};
@@ -108,11 +108,11 @@ fn in_order(priorities: &[u32], iterators: Vec<IterSpec>) -> Result<Config, Conf
 }
 
 /// The configuration of iterators as they stand in a document.
-#[tactic(auto, unfolding(crate::specs::Document::accepted))]
+#[tactic(auto, unfolding(crate::specs::Document::config_of_iterators))]
 fn accepted(alloc: Global, iterators: Vec<IterSpec>) -> Result<Config, ConfigError>
     requires few { length iterators.items ≤ MAX_ITERATORS }
     requires limits { All (λ s. IsLimited s.kind) iterators.items }
-    ensures { Reads (λ c. c) (accepted iterators.items) result }
+    ensures { Reads (λ c. c) (config_of_iterators iterators.items) result }
 {
     if let Some(at) = first_repeat(Rule::Name, &iterators) {
         return Err(broken(Rule::Name, at));

@@ -4,9 +4,9 @@ use Rattle.std.specs.Prelude.{⊤}
 use Rattle.std.specs.Arc.{arc_value}
 use Rattle.tablet_model.specs.Cell.{Cell}
 use Rattle.tablet_model.specs.Cuts.{is_before}
-use Rattle.tablet_model.specs.Combines.{combined}
-use Rattle.tablet_model.specs.Filters.{filtered}
-use Rattle.tablet_model.specs.Rows.{intersected}
+use Rattle.tablet_model.specs.Combines.{combine_columns}
+use Rattle.tablet_model.specs.Filters.{filter_puts}
+use Rattle.tablet_model.specs.Rows.{intersect_terms}
 use Rattle.tablet_model.specs.RowText.{whole_rows}
 use Rattle.tablet_model.specs.Reductions.{Reduction}
 use Rattle.tablet_model.specs.Stages.{by_column, by_cell, stage}
@@ -32,7 +32,7 @@ use Rattle.whole_row.specs.RowLists.{AreLive}
 use Rattle.whole_row.specs.declared.stage.RowStage.{RowStage}
 use Rattle.iter_config.specs.Predicates.{is_of_column, keeps, filter_stage}
 use Rattle.iter_config.specs.declared.predicate.Predicate.{Predicate}
-use Rattle.stages.specs.Passes.{shown}
+use Rattle.stages.specs.Passes.{entries_left}
 use Rattle.stages.specs.declared.cursor.Cursor.{Cursor}
 use Rattle.iter_stack.specs.DropStages.{drop_made, drop_keeps, drop_passed}
 use Rattle.iter_stack.specs.LevelStages.{AreCombinable, IsFresh, IsBottom}
@@ -42,9 +42,9 @@ use Rattle.iter_stack.specs.declared.stage.LevelStage.{LevelStage}
 use Rattle.iter_stack.specs.declared.stage.LevelStage.TheVariants as level
 
 -- combiners of the same columns make the same of equal lists
-pub combined_alike : {F G : List ColumnName} {r q : Reduction} {A B : List Cell} → F ≡ G → r ≡ q → A ≡ B → combined (column_listed F) r A ≡ combined (column_listed G) q B
+pub combined_alike : {F G : List ColumnName} {r q : Reduction} {A B : List Cell} → F ≡ G → r ≡ q → A ≡ B → combine_columns (column_listed F) r A ≡ combine_columns (column_listed G) q B
 combined_alike {F} {G} {r} {q} {A} {B} f h e =
-    ap (λ c. combined (column_listed c) r A) f ∙ ap (λ p. combined (column_listed G) p A) h ∙ ap (combined (column_listed G) q) e
+    ap (λ c. combine_columns (column_listed c) r A) f ∙ ap (λ p. combine_columns (column_listed G) p A) h ∙ ap (combine_columns (column_listed G) q) e
 
 -- a combiner that is not sought fits to a source of entries that it takes
 pub combine_fits : {R : Type 0} (reduction : R → Reduction) (joined : R → Option (List ℤ)) (s : CombineStage R) → s.is_sought ≡ false → (A : List Cell)
@@ -75,7 +75,7 @@ module _ (columns : List ColumnName) (r : Reduction) (steady : Bool → Bool) wh
       subst (λ n. AreCombinable n (reduction s.reducer) list) (sym c) (subst (λ q. AreRead columns q list) (sym e) t.0, t.1)
 
   pub fresh_longs : (s : CombineStage LongReducer) → arc_value s.columns ≡ columns → long_reduction s.reducer ≡ r → s.is_sought ≡ false → ((source : Bool) → (source && true) ≡ steady source)
-      → IsFresh (combined (column_listed columns) r) steady (AreCombinable columns r) (λ count. ⊤) (level.CombineLongs s)
+      → IsFresh (combine_columns (column_listed columns) r) steady (AreCombinable columns r) (λ count. ⊤) (level.CombineLongs s)
   fresh_longs s c e unsought same = record {
     same_cells = λ list. combined_alike c e refl;
     unsought = λ list. combine_unsought long_reduction long_joined s unsought [];
@@ -84,7 +84,7 @@ module _ (columns : List ColumnName) (r : Reduction) (steady : Bool → Bool) wh
   }
 
   pub fresh_arrays : (s : CombineStage ArrayReducer) → arc_value s.columns ≡ columns → array_reducer_reduction s.reducer ≡ r → s.is_sought ≡ false → ((source : Bool) → (source && false) ≡ steady source)
-      → IsFresh (combined (column_listed columns) r) steady (AreCombinable columns r) (λ count. ⊤) (level.CombineArrays s)
+      → IsFresh (combine_columns (column_listed columns) r) steady (AreCombinable columns r) (λ count. ⊤) (level.CombineArrays s)
   fresh_arrays s c e unsought same = record {
     same_cells = λ list. combined_alike c e refl;
     unsought = λ list. combine_unsought array_reducer_reduction array_reducer_joined s unsought [];
@@ -94,7 +94,7 @@ module _ (columns : List ColumnName) (r : Reduction) (steady : Bool → Bool) wh
 
 -- the operations of numbers
 pub fresh_numbers : (columns : List ColumnName) (o : Op) (e : Encoding) → o ≢ op.ArraySum → (s : CombineStage LongReducer) → arc_value s.columns ≡ columns → long_reduction s.reducer ≡ number_reduction o e → s.is_sought ≡ false
-    → IsFresh (combined (column_listed columns) (reduction_of o e)) (λ source. cond (is_of_arrays o) false source) (AreCombinable columns (reduction_of o e)) (λ count. ⊤) (level.CombineLongs s)
+    → IsFresh (combine_columns (column_listed columns) (reduction_of o e)) (λ source. cond (is_of_arrays o) false source) (AreCombinable columns (reduction_of o e)) (λ count. ⊤) (level.CombineLongs s)
 unfolding reduction_of
 fresh_numbers columns op.Sum e not s c h unsought = fresh_longs columns (number_reduction op.Sum e) (λ source. source) s c h unsought and_true
 fresh_numbers columns op.Min e not s c h unsought = fresh_longs columns (number_reduction op.Min e) (λ source. source) s c h unsought and_true
@@ -103,7 +103,7 @@ fresh_numbers columns op.ArraySum e not s c h unsought = absurd (not refl)
 
 -- and that of arrays
 pub fresh_sums : (columns : List ColumnName) (e : Encoding) (s : CombineStage ArrayReducer) → arc_value s.columns ≡ columns → array_reducer_reduction s.reducer ≡ array_reduction e → s.is_sought ≡ false
-    → IsFresh (combined (column_listed columns) (reduction_of op.ArraySum e)) (λ source. false) (AreCombinable columns (reduction_of op.ArraySum e)) (λ count. ⊤) (level.CombineArrays s)
+    → IsFresh (combine_columns (column_listed columns) (reduction_of op.ArraySum e)) (λ source. false) (AreCombinable columns (reduction_of op.ArraySum e)) (λ count. ⊤) (level.CombineArrays s)
 unfolding reduction_of
 fresh_sums columns e s c h unsought = fresh_arrays columns (array_reduction e) (λ source. false) s c h unsought and_false
 
@@ -115,7 +115,7 @@ made_alike {F} {G} {A} {B} f e = ap (λ h. h A) f ∙ ap G e
 pub bottom_drop : (c : Cursor DropStage) (stage : DropStage) → c.stage ≡ stage → c.is_sought ≡ false → IsBottom (drop_made stage) (level.Drop c)
 bottom_drop c stage same unsought = record {
   same_cells = λ list. ap (λ s. drop_made s list) same;
-  unsought = λ list rest. ap (λ b. cond b (shown drop_keeps drop_passed c.stage rest) []) unsought;
+  unsought = λ list rest. ap (λ b. cond b (entries_left drop_keeps drop_passed c.stage rest) []) unsought;
   same_steady = λ source. refl;
   fits = λ count all list rest. tt;
 }
@@ -144,9 +144,9 @@ fresh_bottom bottom same = record {
 pub filters_alike : (predicate : Predicate) (negate : Bool) (s : FilterStage) → test_of s ≡ keeps predicate negate
     → (list : List Cell) → filter_made s list ≡ stage (filter_stage predicate negate) list
 unfolding stage filter_stage
-filters_alike predicate negate s same list = ap (λ test. filtered test list) same ∙ go (is_of_column predicate)
+filters_alike predicate negate s same list = ap (λ test. filter_puts test list) same ∙ go (is_of_column predicate)
   where
-    go : (b : Bool) → filtered (keeps predicate negate) list ≡ stage (cond b (by_column (keeps predicate negate)) (by_cell (keeps predicate negate))) list
+    go : (b : Bool) → filter_puts (keeps predicate negate) list ≡ stage (cond b (by_column (keeps predicate negate)) (by_cell (keeps predicate negate))) list
     go true = refl
     go false = refl
 
@@ -164,9 +164,9 @@ fresh_rows s unsought = record {
 
 -- and one of an intersection
 pub fresh_intersect : (terms without : List (List ℕ)) (s : IntersectStage) → arc_value s.terms ≡ terms → arc_value s.without ≡ without → s.is_held ≡ false
-    → IsFresh (intersected terms without) (λ source. false) (λ list. 1 ≤ length terms) (λ count. count ≡ length terms + length without) (level.Intersect s)
+    → IsFresh (intersect_terms terms without) (λ source. false) (λ list. 1 ≤ length terms) (λ count. count ≡ length terms + length without) (level.Intersect s)
 fresh_intersect terms without s t w unheld = record {
-  same_cells = λ list. ap (λ x. intersected x (arc_value s.without) list) t ∙ ap (λ x. intersected terms x list) w;
+  same_cells = λ list. ap (λ x. intersect_terms x (arc_value s.without) list) t ∙ ap (λ x. intersect_terms terms x list) w;
   unsought = λ list. off s.is_held _ [] unheld;
   same_steady = λ source. refl;
   takes = λ count all list some counted same. (
@@ -180,5 +180,5 @@ fresh_intersect terms without s t w unheld = record {
 }
 
 -- intersections of the same terms make the same of equal lists
-pub intersected_alike : {t u w x : List (List ℕ)} {A B : List Cell} → t ≡ u → w ≡ x → A ≡ B → intersected t w A ≡ intersected u x B
-intersected_alike {t} {u} {w} {x} {A} {B} f g e = ap (λ k. intersected k w A) f ∙ ap (λ k. intersected u k A) g ∙ ap (intersected u x) e
+pub intersected_alike : {t u w x : List (List ℕ)} {A B : List Cell} → t ≡ u → w ≡ x → A ≡ B → intersect_terms t w A ≡ intersect_terms u x B
+intersected_alike {t} {u} {w} {x} {A} {B} f g e = ap (λ k. intersect_terms k w A) f ∙ ap (λ k. intersect_terms u k A) g ∙ ap (intersect_terms u x) e

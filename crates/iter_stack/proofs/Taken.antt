@@ -3,11 +3,11 @@ use Rattle.std.proofs.Common.{◌≡◌, Bool, true, false, not, ◌&&◌, ◌||
 use Rattle.std.proofs.lemmas.List.Elements.{recursion_from_All}
 use Rattle.std.specs.List.{AllByRecursion, IsDistinct}
 use Rattle.tablet_model.specs.Cell.{Cell}
-use Rattle.tablet_model.specs.Kept.{kept}
+use Rattle.tablet_model.specs.Kept.{filter_beside}
 use Rattle.tablet_model.specs.Markers.{live, is_live, mark, is_unmarked}
 use Rattle.tablet_model.specs.Versions.{versions, is_recent}
-use Rattle.tablet_model.specs.Filters.{filtered}
-use Rattle.tablet_model.specs.Combines.{combined, leads, rewritten, joined_value}
+use Rattle.tablet_model.specs.Filters.{filter_puts}
+use Rattle.tablet_model.specs.Combines.{combine_columns, leads, with_joined_value, joined_value}
 use Rattle.tablet_model.specs.Reductions.{Reduction}
 use Rattle.tablet_model.specs.Reading.{IsReadBy, AreUnmarkedRead, AreInFront}
 use Rattle.tablet_model.specs.Stages.{Stage, by_column, by_cell, combine, intersect, rows, stage}
@@ -72,8 +72,8 @@ other_reads op columns encoding deletes e h (Combine o others c d) apart =
 
 -- what a combiner rewrites is in its columns
 rewritten_read : (columns : List ColumnName) (r : Reduction) (ss : List Stage) → ((e : Cell) → is_listed columns e.key.family e.key.qualifier ≡ true → AllByRecursion (IsReadBy e) ss)
-    → (list : List Cell) (e : Cell) → IsUnmarkedRead ss e → IsUnmarkedRead ss (rewritten (column_listed columns) r list e)
-unfolding rewritten column_listed
+    → (list : List Cell) (e : Cell) → IsUnmarkedRead ss e → IsUnmarkedRead ss (with_joined_value (column_listed columns) r list e)
+unfolding with_joined_value column_listed
 rewritten_read columns r ss read list e h = go e.key.deleted (is_listed columns e.key.family e.key.qualifier) refl
   where
     new : Cell
@@ -100,7 +100,7 @@ plain_read ss h (e ∷ es) = ((λ put. stages_all (IsReadBy e) (λ t. is_combine
 -- a stage leaves its entries to be read by those behind it
 stage_read : (k : Kind) (ss : List IterSpec) → AllByRecursion (λ t. AreApart k t.kind) ss → AllByRecursion (λ t. (is_scan_only k && is_combiner t.kind) ≡ false) ss → (list : List Cell) → AreUnmarkedRead (stages_of ss) list
     → AreUnmarkedRead (stages_of ss) (stage (stage_of k) list)
-unfolding stage filter_stage filtered versions combined
+unfolding stage filter_stage filter_puts versions combine_columns
 stage_read (Filter predicate negate) ss apart behind list h = go (is_of_column predicate)
   where
     go : (b : Bool) → AreUnmarkedRead (stages_of ss) (stage (cond b (by_column (keeps predicate negate)) (by_cell (keeps predicate negate))) list)
@@ -114,8 +114,8 @@ stage_read (Combine op columns encoding deletes) ss apart behind list h =
     let r : Reduction = reduction_of op encoding in
     let others : (e : Cell) → is_listed columns e.key.family e.key.qualifier ≡ true → AllByRecursion (IsReadBy e) (stages_of ss) =
     λ e listed. stages_all (IsReadBy e) (λ t. AreApart (Combine op columns encoding deletes) t.kind) (λ t k. other_reads op columns encoding deletes e listed t.kind k) ss apart in
-    all_map P P (rewritten (column_listed columns) r list) (rewritten_read columns r (stages_of ss) others list)
-    (kept (leads (column_listed columns)) [] list) (all_kept P (leads (column_listed columns)) [] list h)
+    all_map P P (with_joined_value (column_listed columns) r list) (rewritten_read columns r (stages_of ss) others list)
+    (filter_beside (leads (column_listed columns)) [] list) (all_kept P (leads (column_listed columns)) [] list h)
 
 -- the values in the listed columns
 values_read : (columns : List ColumnName) (r : Reduction) (full : Bool) (ss : List Stage) (list : List Cell) → AreUnmarkedRead (combine (column_listed columns) r full ∷ ss) list → AreRead columns r list

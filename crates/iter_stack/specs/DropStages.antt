@@ -6,7 +6,7 @@ use Rattle.tablet_model.specs.Order.{above}
 use Rattle.tablet_model.specs.Sorted.{Ascends, from_first}
 use Rattle.tablet_model.specs.Bounds.{AreEntries}
 use Rattle.tablet_model.specs.Cuts.{Span, is_behind, within}
-use Rattle.stages.specs.Passes.{kept_from, reached}
+use Rattle.stages.specs.Passes.{kept_from, seek_range}
 use Rattle.stages.proofs.Wrapped.{wrapped_pass}
 use Rattle.delete_iter.specs.MarkStages as marks
 use Rattle.delete_iter.specs.MarkPass.{mark_pass, mark_narrows}
@@ -71,7 +71,7 @@ drop_pass (drop.Versions s) list up =
 
 -- what a seek reads gives what the range has of what it makes of all
 pub drop_narrows : (s : DropStage) (span : Span) (list : List Cell) → Ascends above list → AreEntries list
-    → from_first (λ e. is_behind span.start e.key) (drop_made s (within (reached (drop_wide s) span) list)) ≡ within span (drop_made s list)
+    → from_first (λ e. is_behind span.start e.key) (drop_made s (within (seek_range (drop_wide s) span) list)) ≡ within span (drop_made s list)
 drop_narrows (drop.Live s) span list up all = live_narrows span list up all
 drop_narrows (drop.Mark s) span list up all = mark_narrows span list up all
 drop_narrows (drop.Filter s) span list up all = filter_narrows s span list

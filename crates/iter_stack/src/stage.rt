@@ -1,6 +1,6 @@
 //! What a level does.
 ghost use Rattle.std.specs.Prelude.{false, IfOk, if◌then◌else◌, ⊤};
-ghost use Rattle.tablet_model.specs.Combines.{combined};
+ghost use Rattle.tablet_model.specs.Combines.{combine_columns};
 ghost use Rattle.tablet_model.specs.Stages.{stage};
 ghost use Rattle.cell_key.specs.Listed.{column_listed};
 ghost use Rattle.number_values.specs.Values.{reduction_of};

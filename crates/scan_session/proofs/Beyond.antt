@@ -13,7 +13,7 @@ use Rattle.tablet_model.proofs.CutLemmas.{gt_up, row_le, key_le, GoesUp}
 use Rattle.tablet_model.proofs.Orders.{key_total, above_exact}
 use Rattle.tablet_model.proofs.Risings.{filter_in}
 use Rattle.tablet_model.proofs.Sums.{Ascends-filter, all_weaker}
-use Rattle.scan_session.specs.Takes.{Mode, plain, isolated, together, behind, last_of, moved}
+use Rattle.scan_session.specs.Takes.{Mode, plain, isolated, together, behind, last_of, place_after}
 use Rattle.scan_session.specs.Walks.{EndsWell}
 
 pub both_ways : {b : Bool} → b ≡ true → b ≡ false → ⊥
@@ -105,8 +105,8 @@ left_behind mode e (x ∷ xs) rest up ends =
 
 -- behind a piece only the rest is left
 pub behind_piece : (mode : Mode) (p : Place) (list es rest : List Cell) → Ascends above list → after p list ≡ es ++ rest
-    → EndsWell mode es rest → after (moved mode p es) list ≡ rest
-unfolding moved
+    → EndsWell mode es rest → after (place_after mode p es) list ≡ rest
+unfolding place_after
 behind_piece mode p list [] rest up h ends = absurd ends
 behind_piece mode p list (e ∷ es) rest up h ends =
     let last : Cell = last_of e es in

@@ -4,23 +4,23 @@ use Rattle.tablet_model.specs.Cell.{Cell}
 use Rattle.tablet_model.specs.Order.{column_cmp, time_cmp, key_cmp}
 use Rattle.tablet_model.specs.Sorted.{later}
 use Rattle.tablet_model.proofs.ExampleCells.{entry, put_x}
-use Rattle.scan_session.specs.Takes.{plain, isolated, together, taken_behind, taken, last_of}
+use Rattle.scan_session.specs.Takes.{plain, isolated, together, taken_behind, take_together, last_of}
 use Rattle.scan_session.specs.Walks.{EndsWell, IsPieceOf}
 
 -- two of one key and one of an older one, in one row, and one of the next row
 abbrev four : List Cell
 four = put_x 2 (codes "a") ∷ put_x 2 (codes "b") ∷ put_x 1 (codes "c") ∷ entry (codes "r2") (codes "n") (codes "x") 1 [] ∷ []
 
-one_takes_a_whole_key : taken plain 1 four ≡ put_x 2 (codes "a") ∷ put_x 2 (codes "b") ∷ []
-unfolding taken taken_behind together key_cmp column_cmp time_cmp
+one_takes_a_whole_key : take_together plain 1 four ≡ put_x 2 (codes "a") ∷ put_x 2 (codes "b") ∷ []
+unfolding take_together taken_behind together key_cmp column_cmp time_cmp
 one_takes_a_whole_key = refl
 
-three_are_three : taken plain 3 four ≡ put_x 2 (codes "a") ∷ put_x 2 (codes "b") ∷ put_x 1 (codes "c") ∷ []
-unfolding taken taken_behind together key_cmp column_cmp time_cmp
+three_are_three : take_together plain 3 four ≡ put_x 2 (codes "a") ∷ put_x 2 (codes "b") ∷ put_x 1 (codes "c") ∷ []
+unfolding take_together taken_behind together key_cmp column_cmp time_cmp
 three_are_three = refl
 
-one_takes_a_whole_row : taken isolated 1 four ≡ put_x 2 (codes "a") ∷ put_x 2 (codes "b") ∷ put_x 1 (codes "c") ∷ []
-unfolding taken taken_behind together
+one_takes_a_whole_row : take_together isolated 1 four ≡ put_x 2 (codes "a") ∷ put_x 2 (codes "b") ∷ put_x 1 (codes "c") ∷ []
+unfolding take_together taken_behind together
 one_takes_a_whole_row = refl
 
 a_whole_key_is_a_piece : IsPieceOf plain (put_x 2 (codes "a") ∷ put_x 2 (codes "b") ∷ []) four

@@ -15,9 +15,9 @@ use Rattle.tablet_model.proofs.Merges.{all_append}
 use Rattle.tablet_model.proofs.Orders.{above_exact, exact_keys, key_total}
 use Rattle.tablet_model.proofs.Sums.{Ascends-filter, all_weaker}
 use Rattle.scan_session.specs.Keys.{KeysDiffer, KeysRise}
-use Rattle.scan_session.specs.Takes.{Mode, plain, isolated, together, taken_behind, taken, last_of, behind, moved}
+use Rattle.scan_session.specs.Takes.{Mode, plain, isolated, together, taken_behind, take_together, last_of, behind, place_after}
 use Rattle.scan_session.specs.WalkLaws.{AnswersAscend, PiecesPartNoKey, WalksNeverFall, KeysStandInOnePiece, RowsStandInOnePiece, DifferentKeysRise, DifferentKeysAreCounted}
-use Rattle.scan_session.specs.Walks.{EndsWell, IsPieceOf, Walks, joined}
+use Rattle.scan_session.specs.Walks.{EndsWell, IsPieceOf, Walks, entries_of_pieces}
 use Rattle.scan_session.specs.declared.piece.Piece.{Piece}
 use Rattle.scan_session.proofs.Beyond.{both_ways, beyond, is_behind_entry, above_of_beyond, after-GoesUp, all_pass, all_last, own}
 use Rattle.scan_session.proofs.Pairs.{all_front, all_back, Ascends-append, Ascends-front, Ascends-weaker, IsDistinct-front, IsDistinct-filter, strictly-append}
@@ -39,8 +39,8 @@ before_last e (x ∷ xs) rest up = (all_last (λ y. above e y ≡ false) x xs re
 
 -- what lies behind a piece lies behind the place before it
 behind_is_after : (mode : Mode) (p : Place) (entries rest : List Cell) → AllByRecursion (λ e. is_after p e.key ≡ true) (entries ++ rest)
-    → EndsWell mode entries rest → (y : Cell) → is_after (moved mode p entries) y.key ≡ true → is_after p y.key ≡ true
-unfolding moved
+    → EndsWell mode entries rest → (y : Cell) → is_after (place_after mode p entries) y.key ≡ true → is_after p y.key ≡ true
+unfolding place_after
 behind_is_after mode p [] rest here ends y h = absurd ends
 behind_is_after mode p (e ∷ es) rest here ends y h =
     after-GoesUp p (last_of e es) y (above_of_beyond mode (last_of e es) y (sym (is_behind_entry mode (last_of e es) y) ∙ h))
@@ -48,9 +48,9 @@ behind_is_after mode p (e ∷ es) rest here ends y h =
 
 -- and is beyond all its entries
 behind_is_beyond : (mode : Mode) (p : Place) (entries rest others : List Cell) → Ascends above (entries ++ rest) → EndsWell mode entries rest
-    → AllByRecursion (λ b. is_after (moved mode p entries) b.key ≡ true) others
+    → AllByRecursion (λ b. is_after (place_after mode p entries) b.key ≡ true) others
     → AllByRecursion (λ a. AllByRecursion (λ b. beyond mode b a ≡ true) others) entries
-unfolding moved
+unfolding place_after
 behind_is_beyond mode p [] rest others up ends h = absurd ends
 behind_is_beyond mode p (e ∷ es) rest others up ends h =
     let last : Cell = last_of e es in
@@ -65,36 +65,36 @@ up_after p list entries rest up whole = subst (Ascends above) whole (Ascends-fil
 
 -- all entries of a walk lie behind the place where it began
 walk_after : (answers : ℕ → List Cell) (most : ℕ) (mode : Mode) (p q : Place) (n l : ℕ) (pieces : List Piece)
-    → Walks answers most mode p n pieces q l → AllByRecursion (λ e. is_after p e.key ≡ true) (joined pieces)
+    → Walks answers most mode p n pieces q l → AllByRecursion (λ e. is_after p e.key ≡ true) (entries_of_pieces pieces)
 walk_after answers most mode p q n l [] w = tt
 walk_after answers most mode p q n l (x ∷ xs) w =
     let piece : IsPieceOf mode x.entries (after p (answers x.n)) = w.2 in
     let here : AllByRecursion (λ e. is_after p e.key ≡ true) (x.entries ++ piece.rest) =
     subst (AllByRecursion (λ e. is_after p e.key ≡ true)) piece.whole (all_pass (λ e. is_after p e.key) (answers x.n)) in
-    all_append (λ e. is_after p e.key ≡ true) x.entries (joined xs)
+    all_append (λ e. is_after p e.key ≡ true) x.entries (entries_of_pieces xs)
     (all_front (λ e. is_after p e.key ≡ true) x.entries piece.rest here)
-    (all_weaker (λ e. is_after (moved mode p x.entries) e.key ≡ true) (λ e. is_after p e.key ≡ true)
-    (behind_is_after mode p x.entries piece.rest here piece.ends) (joined xs)
-    (walk_after answers most mode (moved mode p x.entries) q x.n l xs w.3))
+    (all_weaker (λ e. is_after (place_after mode p x.entries) e.key ≡ true) (λ e. is_after p e.key ≡ true)
+    (behind_is_after mode p x.entries piece.rest here piece.ends) (entries_of_pieces xs)
+    (walk_after answers most mode (place_after mode p x.entries) q x.n l xs w.3))
 
-joined_append : (xs ys : List Piece) → joined (xs ++ ys) ≡ joined xs ++ joined ys
+joined_append : (xs ys : List Piece) → entries_of_pieces (xs ++ ys) ≡ entries_of_pieces xs ++ entries_of_pieces ys
 joined_append [] ys = refl
-joined_append (x ∷ xs) ys = ap (λ l. x.entries ++ l) (joined_append xs ys) ∙ sym (append_assoc x.entries (joined xs) (joined ys))
+joined_append (x ∷ xs) ys = ap (λ l. x.entries ++ l) (joined_append xs ys) ∙ sym (append_assoc x.entries (entries_of_pieces xs) (entries_of_pieces ys))
 
 -- the entries of later pieces are beyond those of earlier ones
 pieces_beyond : (answers : ℕ → List Cell) (most : ℕ) (mode : Mode) (p q : Place) (n l : ℕ) (xs ys : List Piece)
     → AnswersAscend answers most → Walks answers most mode p n (xs ++ ys) q l
-    → AllByRecursion (λ a. AllByRecursion (λ b. beyond mode b a ≡ true) (joined ys)) (joined xs)
+    → AllByRecursion (λ a. AllByRecursion (λ b. beyond mode b a ≡ true) (entries_of_pieces ys)) (entries_of_pieces xs)
 pieces_beyond answers most mode p q n l [] ys up w = tt
 pieces_beyond answers most mode p q n l (x ∷ xs) ys up w =
     let piece : IsPieceOf mode x.entries (after p (answers x.n)) = w.2 in
-    let there : Cell → Type 0 = λ e. is_after (moved mode p x.entries) e.key ≡ true in
-    let later : AllByRecursion there (joined xs ++ joined ys) =
-    subst (AllByRecursion there) (joined_append xs ys) (walk_after answers most mode (moved mode p x.entries) q x.n l (xs ++ ys) w.3) in
-    all_append (λ a. AllByRecursion (λ b. beyond mode b a ≡ true) (joined ys)) x.entries (joined xs)
-    (behind_is_beyond mode p x.entries piece.rest (joined ys) (up_after p (answers x.n) x.entries piece.rest (up x.n w.1) piece.whole) piece.ends
-    (all_back there (joined xs) (joined ys) later))
-    (pieces_beyond answers most mode (moved mode p x.entries) q x.n l xs ys up w.3)
+    let there : Cell → Type 0 = λ e. is_after (place_after mode p x.entries) e.key ≡ true in
+    let later : AllByRecursion there (entries_of_pieces xs ++ entries_of_pieces ys) =
+    subst (AllByRecursion there) (joined_append xs ys) (walk_after answers most mode (place_after mode p x.entries) q x.n l (xs ++ ys) w.3) in
+    all_append (λ a. AllByRecursion (λ b. beyond mode b a ≡ true) (entries_of_pieces ys)) x.entries (entries_of_pieces xs)
+    (behind_is_beyond mode p x.entries piece.rest (entries_of_pieces ys) (up_after p (answers x.n) x.entries piece.rest (up x.n w.1) piece.whole) piece.ends
+    (all_back there (entries_of_pieces xs) (entries_of_pieces ys) later))
+    (pieces_beyond answers most mode (place_after mode p x.entries) q x.n l xs ys up w.3)
 
 less_of : (p q : Ordering) → p ≡ ordering_reverse q → is_gt q ≡ true → p ≡ Less
 less_of p q e h = grind arith
@@ -119,23 +119,23 @@ pairs_weaker P Q weaker xs ys h =
 
 pub keys_in_one_piece : KeysStandInOnePiece
 keys_in_one_piece answers most mode p q n l xs ys up w =
-    pairs_weaker (λ a b. beyond mode b a ≡ true) (λ a b. key_cmp a.key b.key ≡ Less) (key_below mode) (joined xs) (joined ys)
+    pairs_weaker (λ a b. beyond mode b a ≡ true) (λ a b. key_cmp a.key b.key ≡ Less) (key_below mode) (entries_of_pieces xs) (entries_of_pieces ys)
     (pieces_beyond answers most mode p q n l xs ys up w)
 
 pub rows_in_one_piece : RowsStandInOnePiece
 rows_in_one_piece answers most p q n l xs ys up w =
-    pairs_weaker (λ a b. beyond isolated b a ≡ true) (λ a b. bytes_cmp a.key.row b.key.row ≡ Less) row_below (joined xs) (joined ys)
+    pairs_weaker (λ a b. beyond isolated b a ≡ true) (λ a b. bytes_cmp a.key.row b.key.row ≡ Less) row_below (entries_of_pieces xs) (entries_of_pieces ys)
     (pieces_beyond answers most isolated p q n l xs ys up w)
 
 -- a piece's entries are beyond none of the later ones'
 piece_below : (answers : ℕ → List Cell) (most : ℕ) (mode : Mode) (p q : Place) (n l : ℕ) (x : Piece) (xs : List Piece)
     → AnswersAscend answers most → Walks answers most mode p n (x ∷ xs) q l
-    → AllByRecursion (λ a. AllByRecursion (λ b. key_cmp a.key b.key ≡ Less) (joined xs)) x.entries
+    → AllByRecursion (λ a. AllByRecursion (λ b. key_cmp a.key b.key ≡ Less) (entries_of_pieces xs)) x.entries
 piece_below answers most mode p q n l x xs up w =
     let piece : IsPieceOf mode x.entries (after p (answers x.n)) = w.2 in
-    pairs_weaker (λ a b. beyond mode b a ≡ true) (λ a b. key_cmp a.key b.key ≡ Less) (key_below mode) x.entries (joined xs)
-    (behind_is_beyond mode p x.entries piece.rest (joined xs) (up_after p (answers x.n) x.entries piece.rest (up x.n w.1) piece.whole) piece.ends
-    (walk_after answers most mode (moved mode p x.entries) q x.n l xs w.3))
+    pairs_weaker (λ a b. beyond mode b a ≡ true) (λ a b. key_cmp a.key b.key ≡ Less) (key_below mode) x.entries (entries_of_pieces xs)
+    (behind_is_beyond mode p x.entries piece.rest (entries_of_pieces xs) (up_after p (answers x.n) x.entries piece.rest (up x.n w.1) piece.whole) piece.ends
+    (walk_after answers most mode (place_after mode p x.entries) q x.n l xs w.3))
 
 abbrev key_above : Cell → Cell → Bool
 key_above a b = is_gt (key_cmp a.key b.key)
@@ -151,10 +151,10 @@ pub never_fall : WalksNeverFall
 unfolding Ascends
 never_fall answers most mode p q n l [] up w = tt
 never_fall answers most mode p q n l (x ∷ xs) up w =
-    Ascends-append key_above x.entries (joined xs)
+    Ascends-append key_above x.entries (entries_of_pieces xs)
     (Ascends-weaker above key_above key_le x.entries (piece_up answers most mode p q n l x xs up w))
-    (never_fall answers most mode (moved mode p x.entries) q x.n l xs up w.3)
-    (pairs_weaker (λ a b. key_cmp a.key b.key ≡ Less) (λ a b. key_above a b ≡ false) (λ a b h. ap is_gt h) x.entries (joined xs)
+    (never_fall answers most mode (place_after mode p x.entries) q x.n l xs up w.3)
+    (pairs_weaker (λ a b. key_cmp a.key b.key ≡ Less) (λ a b. key_above a b ≡ false) (λ a b h. ap is_gt h) x.entries (entries_of_pieces xs)
     (piece_below answers most mode p q n l x xs up w))
 
 same_twice : (p : Ordering) → p ≡ ordering_reverse p → is_eq p ≡ true
@@ -206,9 +206,9 @@ different_rise answers most mode p q n l (x ∷ xs) up differ w =
     let piece : IsPieceOf mode x.entries (after p (answers x.n)) = w.2 in
     let apart : KeysDiffer (x.entries ++ piece.rest) =
     subst KeysDiffer piece.whole (IsDistinct-filter (together plain) (λ e. is_after p e.key) (answers x.n) (differ x.n w.1)) in
-    strictly-append (λ a b. key_cmp a.key b.key) x.entries (joined xs)
+    strictly-append (λ a b. key_cmp a.key b.key) x.entries (entries_of_pieces xs)
     (differ_rise x.entries (piece_up answers most mode p q n l x xs up w) (IsDistinct-front (together plain) x.entries piece.rest apart))
-    (different_rise answers most mode (moved mode p x.entries) q x.n l xs up differ w.3)
+    (different_rise answers most mode (place_after mode p x.entries) q x.n l xs up differ w.3)
     (piece_below answers most mode p q n l x xs up w)
 
 -- of different keys, what is taken behind an entry is a count
@@ -224,8 +224,8 @@ count_behind (suc m) last (e ∷ es) differ =
     fewer : suc m - 1 ≡ m
     fewer = omega arith
 
-count_taken : (m : ℕ) (list : List Cell) → 1 ≤ m → KeysDiffer list → taken plain m list ≡ take m list
-unfolding taken
+count_taken : (m : ℕ) (list : List Cell) → 1 ≤ m → KeysDiffer list → take_together plain m list ≡ take m list
+unfolding take_together
 count_taken m [] h differ = sym (take-nil m)
 count_taken zero (e ∷ es) h differ = absurd (omega arith)
 count_taken (suc m) (e ∷ es) h differ = ap (λ k. e ∷ taken_behind plain k e es) fewer ∙ ap (λ l. e ∷ l) (count_behind m e es differ)

@@ -5,14 +5,14 @@ use Rattle.tablet_model.specs.Cell.{Cell}
 use Rattle.tablet_model.specs.Places.{Place}
 use Rattle.tablet_model.specs.Sorted.{first, later}
 use Rattle.scan_session.specs.Runs.{may_end}
-use Rattle.scan_session.specs.Takes.{Mode, together, taken_behind, taken, last_of, behind, moved}
+use Rattle.scan_session.specs.Takes.{Mode, together, taken_behind, take_together, last_of, behind, place_after}
 
 some_same : (x y : Cell) → Some x ≡ Some y → x ≡ y
 some_same x y e = cc
 
 -- what is taken in all, where a run has been taken and the rest is left
 abbrev pub taken_with : Mode → ℕ → List Cell → List Cell → List Cell
-taken_with mode m [] rest = taken mode m rest
+taken_with mode m [] rest = take_together mode m rest
 taken_with mode m (e ∷ es) rest = (e ∷ es) ++ taken_behind mode (m - suc (length es)) (last_of e es) rest
 
 -- the last of a longer run
@@ -40,7 +40,7 @@ run_ends mode m (e ∷ es) (y ∷ ys) whole x f h t =
 -- the next entry joins the run
 joins : (mode : Mode) (m : ℕ) (run : List Cell) (x : Cell) (xs : List Cell) → may_end mode m run x ≡ false
     → taken_with mode m (run ++ x ∷ []) xs ≡ taken_with mode m run (x ∷ xs)
-unfolding may_end taken_behind taken last_of
+unfolding may_end taken_behind take_together last_of
 joins mode m [] x xs h = refl
 joins mode m (e ∷ es) x xs h =
     append_assoc (e ∷ es) (x ∷ []) (taken_behind mode (m - suc (length (es ++ x ∷ []))) (last_of e (es ++ x ∷ [])) xs)
@@ -69,7 +69,7 @@ rest_goes_on run (y ∷ ys) whole pushed left x f p l e =
 
 -- nothing is left
 pub run_is_all : (mode : Mode) (m : ℕ) (run list whole : List Cell) → None ≡ first list → taken_with mode m run list ≡ whole → run ≡ whole
-unfolding taken_behind taken
+unfolding taken_behind take_together
 run_is_all mode m [] [] whole f t = t
 run_is_all mode m (e ∷ es) [] whole f t = sym (append-nil (e ∷ es)) ∙ t
 run_is_all mode m run (x ∷ xs) whole f t = absurd (cc)
@@ -96,7 +96,7 @@ may_end_behind mode m (e ∷ es) last x h =
 
 -- and a reader stands behind it
 pub moved_behind : (mode : Mode) (run : List Cell) (last : Cell) (old : Place) → Some last ≡ slice_get run (length run - 1)
-    → behind mode last ≡ moved mode old run
-unfolding moved
+    → behind mode last ≡ place_after mode old run
+unfolding place_after
 moved_behind mode [] last old h = absurd (cc)
 moved_behind mode (e ∷ es) last old h = ap (behind mode) (some_same last (last_of e es) (h ∙ last_is e es))

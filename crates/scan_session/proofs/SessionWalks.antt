@@ -30,7 +30,7 @@ use Rattle.tablet_view.specs.Extending.{BeginsWith}
 use Rattle.tablet_view.proofs.Logs.{begins_length, begins_refl, begins_trans}
 use Rattle.scan_session.specs.SessionLaws.{AnswersStandInOrder, StayingWalks, RenewalsWalk, SessionsGoOn, SessionsWalkOverHistories, SessionsAreWhole}
 use Rattle.scan_session.specs.Sessions.{SessionState, IsSameScan, answer_over, answers_of, number_of}
-use Rattle.scan_session.specs.Walks.{Walks, joined}
+use Rattle.scan_session.specs.Walks.{Walks, entries_of_pieces}
 use Rattle.scan_session.specs.declared.piece.Piece.{Piece}
 use Rattle.scan_session.proofs.Walking.{begin_answer, walks_join, walks_on, walks_lower, walks_bounded}
 
@@ -135,6 +135,6 @@ whole_sessions new old pieces up w start nothing at =
     (subst (λ p. Walks (answers_of new) (number_of new) new.mode p (number_of old) pieces new.place w.last) start w.walk) in
     sym (sym all
     ∙ begun
-    ∙ ap (λ list. joined pieces ++ after new.place list) all
-    ∙ ap (λ list. joined pieces ++ list) nothing
-    ∙ append-nil (joined pieces))
+    ∙ ap (λ list. entries_of_pieces pieces ++ after new.place list) all
+    ∙ ap (λ list. entries_of_pieces pieces ++ list) nothing
+    ∙ append-nil (entries_of_pieces pieces))

@@ -1,7 +1,7 @@
 -- What is taken of a list: a piece of it, of enough entries and no more.
 use Rattle.std.proofs.Common.{◌≡◌, ℕ, suc, ◌-◌, ◌<◌, ◌≤◌, Bool, true, false, cond, not, ◌&&◌, List, [], ◌∷◌, ◌++◌, length, eqb, refl, ap, arith}
 use Rattle.tablet_model.specs.Cell.{Cell}
-use Rattle.scan_session.specs.Takes.{Mode, together, taken_behind, taken, last_of}
+use Rattle.scan_session.specs.Takes.{Mode, together, taken_behind, take_together, last_of}
 use Rattle.scan_session.specs.Walks.{EndsWell, IsPieceOf}
 
 -- an entry before others doesn't change how they end
@@ -33,8 +33,8 @@ behind_ends mode m last (e ∷ es) = by_answer (eqb m 0 && not (together mode la
     by_answer false h k = (k.0, ap (λ l. e ∷ l) k.1, ends_longer mode last e (taken_behind mode (m - 1) e es) k.0 k.2)
 
 -- what is taken is a piece
-pub taken_piece : (mode : Mode) (m : ℕ) (e : Cell) (es : List Cell) → IsPieceOf mode (taken mode m (e ∷ es)) (e ∷ es)
-unfolding taken
+pub taken_piece : (mode : Mode) (m : ℕ) (e : Cell) (es : List Cell) → IsPieceOf mode (take_together mode m (e ∷ es)) (e ∷ es)
+unfolding take_together
 taken_piece mode m e es =
     let k = behind_ends mode (m - 1) e es in record { rest = k.0; whole = ap (λ l. e ∷ l) k.1; ends = k.2 }
 
@@ -53,8 +53,8 @@ enough_behind mode m last (e ∷ es) h = by_answer (eqb m 0 && not (together mod
     by_answer true b k h = let zero_left : m ≡ 0 = is_zero m _ b in absurd (omega arith)
     by_answer false b k h = ap (λ l. e ∷ l) (k (omega arith))
 
-pub enough_taken : (mode : Mode) (m : ℕ) (list : List Cell) → length (taken mode m list) < m → taken mode m list ≡ list
-unfolding taken
+pub enough_taken : (mode : Mode) (m : ℕ) (list : List Cell) → length (take_together mode m list) < m → take_together mode m list ≡ list
+unfolding take_together
 enough_taken mode m [] h = refl
 enough_taken mode m (e ∷ es) h = ap (λ l. e ∷ l) (enough_behind mode (m - 1) e es (omega arith))
 
@@ -78,8 +78,8 @@ no_more_behind mode m last (e ∷ es) rest h ends =
     by_answer false k = omega arith
 
 pub no_more_taken : (mode : Mode) (m : ℕ) (front rest : List Cell) → m ≤ length front → EndsWell mode front rest
-    → length (taken mode m (front ++ rest)) ≤ length front
-unfolding taken
+    → length (take_together mode m (front ++ rest)) ≤ length front
+unfolding take_together
 no_more_taken mode m [] rest h ends = absurd ends
 no_more_taken mode m (e ∷ es) rest h ends =
     let k : length (taken_behind mode (m - 1) e (es ++ rest)) ≤ length es = no_more_behind mode (m - 1) e es rest (omega arith) ends in omega arith

@@ -5,7 +5,7 @@ use Rattle.tablet_model.specs.Places.{Start}
 use Rattle.tablet_view.specs.Extending.{BeginsWith}
 use Rattle.tablet_view.specs.Snapshot.{Snapshot}
 use Rattle.scan_session.specs.Sessions.{SessionState, AnswersInOrder, HasWalked, answer_over, left_of, number_of}
-use Rattle.scan_session.specs.Walks.{AreAt, Walks, joined}
+use Rattle.scan_session.specs.Walks.{AreAt, Walks, entries_of_pieces}
 use Rattle.scan_session.specs.declared.piece.Piece.{Piece}
 
 -- what a session answers is in order
@@ -36,4 +36,4 @@ SessionsWalkOverHistories = (new old : SessionState) (pieces : List Piece) (hist
 abbrev pub SessionsAreWhole : Type 0
 SessionsAreWhole = (new old : SessionState) (pieces : List Piece) → AnswersInOrder new → HasWalked new old pieces → old.place ≡ Start
     → left_of new ≡ [] → AreAt (number_of new) pieces
-    → joined pieces ≡ answer_over new new.view.log
+    → entries_of_pieces pieces ≡ answer_over new new.view.log

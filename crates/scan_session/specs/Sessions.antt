@@ -11,8 +11,8 @@ use Rattle.tablet_model.specs.Stages.{stages}
 use Rattle.iter_config.specs.Stages.{stages_of}
 use Rattle.tablet_view.specs.Extending.{BeginsWith}
 use Rattle.tablet_view.specs.Snapshot.{Snapshot}
-use Rattle.scan_session.specs.Takes.{Mode, moved, taken}
-use Rattle.scan_session.specs.Walks.{EndsWell, Walks, end_of, fetched, joined}
+use Rattle.scan_session.specs.Takes.{Mode, place_after, take_together}
+use Rattle.scan_session.specs.Walks.{EndsWell, Walks, end_of, fetch_pieces, entries_of_pieces}
 use Rattle.scan_session.specs.declared.piece.Piece.{Piece}
 
 -- a session: the view that it has pinned, the range, families and mode that it was opened with, and where it stands
@@ -53,15 +53,15 @@ pub record IsSameScan (new old : SessionState) : Type 0 where
 -- what a fetch of m entries gives, where the session has come from a place to where it is: at the number of its view the next entries,
 -- and the end exactly where nothing is left
 pub record IsFetch (m : ℕ) (p : Place) (s : SessionState) (given : List Piece) (end : Option ℕ) : Type 0 where
-  pub pieces : given ≡ fetched s.mode m (number_of s) (after p (answer_over s s.view.log))
-  pub place : s.place ≡ moved s.mode p (taken s.mode m (after p (answer_over s s.view.log)))
+  pub pieces : given ≡ fetch_pieces s.mode m (number_of s) (after p (answer_over s s.view.log))
+  pub place : s.place ≡ place_after s.mode p (take_together s.mode m (after p (answer_over s s.view.log)))
   pub ended : end ≡ end_of (number_of s) (left_of s)
 
 -- these pieces have at least m entries, or nothing is left behind them, and they end where the first m entries may be parted from the next:
 -- whatever numbers they are at
 pub record TakesEnough (m : ℕ) (s : SessionState) (given : List Piece) : Type 0 where
-  pub enough : length (joined given) < m → left_of s ≡ []
-  pub no_more : (front rest : List Cell) (e : Cell) → joined given ≡ front ++ e ∷ rest → EndsWell s.mode front (e ∷ rest) → length front < m
+  pub enough : length (entries_of_pieces given) < m → left_of s ≡ []
+  pub no_more : (front rest : List Cell) (e : Cell) → entries_of_pieces given ≡ front ++ e ∷ rest → EndsWell s.mode front (e ∷ rest) → length front < m
 
 -- it gave these pieces, one behind the other, while it came from an older state to where it is: it is the same scan over a log that begins
 -- with that of then, and they are a walk over its log, from the place and the number of then

@@ -26,9 +26,9 @@ taken_behind mode m last [] = []
 taken_behind mode m last (e ∷ es) = cond (eqb m 0 && not (together mode last e)) [] (e ∷ taken_behind mode (m - 1) e es)
 
 -- the shortest beginning of a list that has at least m entries, and one at least, and parts none that may not be parted; or all
-unfoldable pub taken : Mode → ℕ → List Cell → List Cell
-taken mode m [] = []
-taken mode m (e ∷ es) = e ∷ taken_behind mode (m - 1) e es
+unfoldable pub take_together : Mode → ℕ → List Cell → List Cell
+take_together mode m [] = []
+take_together mode m (e ∷ es) = e ∷ taken_behind mode (m - 1) e es
 
 -- the last of some entries
 unfoldable pub last_of : Cell → List Cell → Cell
@@ -41,6 +41,6 @@ behind plain e = AfterKey e.key
 behind isolated e = AfterRow e.key.row
 
 -- where a reader stands that stood at a place and took these entries
-unfoldable pub moved : Mode → Place → List Cell → Place
-moved mode p [] = p
-moved mode p (e ∷ es) = behind mode (last_of e es)
+unfoldable pub place_after : Mode → Place → List Cell → Place
+place_after mode p [] = p
+place_after mode p (e ∷ es) = behind mode (last_of e es)

@@ -5,8 +5,8 @@ use Rattle.tablet_model.specs.Order.{above}
 use Rattle.tablet_model.specs.Places.{Place, Start, after}
 use Rattle.tablet_model.specs.Sorted.{Ascends}
 use Rattle.scan_session.specs.Keys.{KeysAreBelow, KeysDiffer, KeysNeverFall, KeysRise, RowsAreBelow}
-use Rattle.scan_session.specs.Takes.{Mode, plain, isolated, moved, taken}
-use Rattle.scan_session.specs.Walks.{EndsWell, IsEnd, IsPieceOf, Walks, fetched, joined, AreAt}
+use Rattle.scan_session.specs.Takes.{Mode, plain, isolated, place_after, take_together}
+use Rattle.scan_session.specs.Walks.{EndsWell, IsEnd, IsPieceOf, Walks, fetch_pieces, entries_of_pieces, AreAt}
 use Rattle.scan_session.specs.declared.piece.Piece.{Piece}
 
 -- each answer is in order
@@ -17,19 +17,19 @@ AnswersAscend answers most = (k : ℕ) → k ≤ most → Ascends above (answers
 abbrev pub NothingIsSkipped : Type 0
 NothingIsSkipped = (answers : ℕ → List Cell) (most : ℕ) (mode : Mode) (p q : Place) (n k l : ℕ) (pieces : List Piece)
     → Ascends above (answers k) → AreAt k pieces → Walks answers most mode p n pieces q l
-    → after p (answers k) ≡ joined pieces ++ after q (answers k)
+    → after p (answers k) ≡ entries_of_pieces pieces ++ after q (answers k)
 
 -- so from the start they are a beginning of the answer
 abbrev pub PiecesBeginTheAnswer : Type 0
 PiecesBeginTheAnswer = (answers : ℕ → List Cell) (most : ℕ) (mode : Mode) (q : Place) (n k l : ℕ) (pieces : List Piece)
     → Ascends above (answers k) → AreAt k pieces → Walks answers most mode Start n pieces q l
-    → answers k ≡ joined pieces ++ after q (answers k)
+    → answers k ≡ entries_of_pieces pieces ++ after q (answers k)
 
 -- and a walk at one number that ends gives the whole answer
 abbrev pub WalksAreWhole : Type 0
 WalksAreWhole = (answers : ℕ → List Cell) (most : ℕ) (mode : Mode) (q : Place) (n k l : ℕ) (pieces : List Piece)
     → Ascends above (answers k) → AreAt k pieces → Walks answers most mode Start n pieces q l → IsEnd answers most q l k
-    → joined pieces ≡ answers k
+    → entries_of_pieces pieces ≡ answers k
 
 -- walks, one behind the other, are a walk
 abbrev pub WalksJoin : Type 0
@@ -59,44 +59,44 @@ PiecesPartNoKey = (mode : Mode) (entries list : List Cell) → IsPieceOf mode en
 -- along a walk no key is less than one before it, across numbers too
 abbrev pub WalksNeverFall : Type 0
 WalksNeverFall = (answers : ℕ → List Cell) (most : ℕ) (mode : Mode) (p q : Place) (n l : ℕ) (pieces : List Piece)
-    → AnswersAscend answers most → Walks answers most mode p n pieces q l → KeysNeverFall (joined pieces)
+    → AnswersAscend answers most → Walks answers most mode p n pieces q l → KeysNeverFall (entries_of_pieces pieces)
 
 -- entries with equal keys stand in one piece: the keys of earlier pieces are less than those of later ones
 abbrev pub KeysStandInOnePiece : Type 0
 KeysStandInOnePiece = (answers : ℕ → List Cell) (most : ℕ) (mode : Mode) (p q : Place) (n l : ℕ) (xs ys : List Piece)
-    → AnswersAscend answers most → Walks answers most mode p n (xs ++ ys) q l → KeysAreBelow (joined xs) (joined ys)
+    → AnswersAscend answers most → Walks answers most mode p n (xs ++ ys) q l → KeysAreBelow (entries_of_pieces xs) (entries_of_pieces ys)
 
 -- and in isolated mode so do those of one row, which thus has one number
 abbrev pub RowsStandInOnePiece : Type 0
 RowsStandInOnePiece = (answers : ℕ → List Cell) (most : ℕ) (p q : Place) (n l : ℕ) (xs ys : List Piece)
-    → AnswersAscend answers most → Walks answers most isolated p n (xs ++ ys) q l → RowsAreBelow (joined xs) (joined ys)
+    → AnswersAscend answers most → Walks answers most isolated p n (xs ++ ys) q l → RowsAreBelow (entries_of_pieces xs) (entries_of_pieces ys)
 
 -- where the keys of each answer are all different, each key of a walk is greater than those before it, across numbers too
 abbrev pub DifferentKeysRise : Type 0
 DifferentKeysRise = (answers : ℕ → List Cell) (most : ℕ) (mode : Mode) (p q : Place) (n l : ℕ) (pieces : List Piece)
     → AnswersAscend answers most → ((k : ℕ) → k ≤ most → KeysDiffer (answers k)) → Walks answers most mode p n pieces q l
-    → KeysRise (joined pieces)
+    → KeysRise (entries_of_pieces pieces)
 
 -- a fetch goes on with a walk
 abbrev pub FetchesWalk : Type 0
 FetchesWalk = (answers : ℕ → List Cell) (most : ℕ) (mode : Mode) (p : Place) (n k m : ℕ) → n ≤ k → k ≤ most
-    → (l : ℕ) × Walks answers most mode p n (fetched mode m k (after p (answers k))) (moved mode p (taken mode m (after p (answers k)))) l
+    → (l : ℕ) × Walks answers most mode p n (fetch_pieces mode m k (after p (answers k))) (place_after mode p (take_together mode m (after p (answers k)))) l
 
 -- behind what was taken only the rest is left
 abbrev pub RestIsLeft : Type 0
 RestIsLeft = (mode : Mode) (m : ℕ) (p : Place) (list : List Cell) → Ascends above list
-    → after p list ≡ taken mode m (after p list) ++ after (moved mode p (taken mode m (after p list))) list
+    → after p list ≡ take_together mode m (after p list) ++ after (place_after mode p (take_together mode m (after p list))) list
 
 -- what is taken has at least m entries, or all that there are
 abbrev pub EnoughIsTaken : Type 0
-EnoughIsTaken = (mode : Mode) (m : ℕ) (list : List Cell) → length (taken mode m list) < m → taken mode m list ≡ list
+EnoughIsTaken = (mode : Mode) (m : ℕ) (list : List Cell) → length (take_together mode m list) < m → take_together mode m list ≡ list
 
 -- and it is the shortest such beginning that ends well
 abbrev pub NoMoreIsTaken : Type 0
 NoMoreIsTaken = (mode : Mode) (m : ℕ) (front rest : List Cell) → m ≤ length front → EndsWell mode front rest
-    → length (taken mode m (front ++ rest)) ≤ length front
+    → length (take_together mode m (front ++ rest)) ≤ length front
 
 -- where the keys are all different, a plain fetch of m takes the first m entries of what is left
 abbrev pub DifferentKeysAreCounted : Type 0
 DifferentKeysAreCounted = (m : ℕ) (p : Place) (list : List Cell) → 1 ≤ m → KeysDiffer list
-    → taken plain m (after p list) ≡ take m (after p list)
+    → take_together plain m (after p list) ≡ take m (after p list)

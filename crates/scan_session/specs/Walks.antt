@@ -2,7 +2,7 @@
 use Rattle.std.specs.Prelude.{◌≡◌, ℕ, ◌≤◌, false, List, [], ◌∷◌, ◌++◌, Option, Some, None, ⊤}
 use Rattle.tablet_model.specs.Cell.{Cell}
 use Rattle.tablet_model.specs.Places.{Place, after}
-use Rattle.scan_session.specs.Takes.{Mode, together, last_of, moved, taken}
+use Rattle.scan_session.specs.Takes.{Mode, together, last_of, place_after, take_together}
 use Rattle.scan_session.specs.declared.piece.Piece.{Piece}
 
 -- some entries stand before others, and the last of them may be parted from the next
@@ -22,7 +22,7 @@ pub record IsPieceOf (mode : Mode) (entries list : List Cell) : Type 0 where
 abbrev pub Walks : (ℕ → List Cell) → ℕ → Mode → Place → ℕ → List Piece → Place → ℕ → Type 0
 Walks answers most mode p n [] q l = (q ≡ p) × (l ≡ n)
 Walks answers most mode p n (x ∷ xs) q l =
-    (n ≤ x.n) × (x.n ≤ most) × IsPieceOf mode x.entries (after p (answers x.n)) × Walks answers most mode (moved mode p x.entries) x.n xs q l
+    (n ≤ x.n) × (x.n ≤ most) × IsPieceOf mode x.entries (after p (answers x.n)) × Walks answers most mode (place_after mode p x.entries) x.n xs q l
 
 -- a walk that came to a place at number l may end at n: nothing is left there
 pub record IsEnd (answers : ℕ → List Cell) (most : ℕ) (q : Place) (l n : ℕ) : Type 0 where
@@ -36,8 +36,8 @@ pieces_of n [] = []
 pieces_of n (e ∷ es) = record { n = n; entries = e ∷ es } ∷ []
 
 -- the pieces of a fetch of m entries at n, where this list is left
-unfoldable pub fetched : Mode → ℕ → ℕ → List Cell → List Piece
-fetched mode m n list = pieces_of n (taken mode m list)
+unfoldable pub fetch_pieces : Mode → ℕ → ℕ → List Cell → List Piece
+fetch_pieces mode m n list = pieces_of n (take_together mode m list)
 
 -- the number at which nothing is left, if nothing is
 abbrev pub end_of : ℕ → List Cell → Option ℕ
@@ -45,9 +45,9 @@ end_of n [] = Some n
 end_of n (e ∷ es) = None
 
 -- the entries of some pieces
-abbrev pub joined : List Piece → List Cell
-joined [] = []
-joined (x ∷ xs) = x.entries ++ joined xs
+abbrev pub entries_of_pieces : List Piece → List Cell
+entries_of_pieces [] = []
+entries_of_pieces (x ∷ xs) = x.entries ++ entries_of_pieces xs
 
 -- all pieces are at one number
 abbrev pub AreAt : ℕ → List Piece → Type 0

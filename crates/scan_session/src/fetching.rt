@@ -11,8 +11,8 @@ ghost use Rattle.tablet_view.specs.Extending.{Extends};
 ghost use Rattle.tablet_view.specs.Snapshot.{Snapshot};
 ghost use Rattle.scan_session.specs.Looks.{Leads, Holds, IsLater};
 ghost use Rattle.scan_session.specs.Runs.{place_behind};
-ghost use Rattle.scan_session.specs.Takes.{mode_of, moved, taken};
-ghost use Rattle.scan_session.specs.Walks.{fetched, end_of};
+ghost use Rattle.scan_session.specs.Takes.{mode_of, place_after, take_together};
+ghost use Rattle.scan_session.specs.Walks.{fetch_pieces, end_of};
 
 use crate::piece::{Fetched, pieces_of};
 use crate::run::{position_behind_run, take_run};
@@ -43,7 +43,7 @@ pub(crate) fn newest<V: Views>(pinned: &Arc<View>, views: &mut V) -> Result<Arc<
 }
 
 /// What a fetch at a number of mutations gives of what a source has in a range, and the position behind it, if it gives an entry.
-#[tactic(auto, unfolding(crate::specs::Walks::fetched))]
+#[tactic(auto, unfolding(crate::specs::Walks::fetch_pieces))]
 pub(crate) fn fetched_from<S: SortedSource>(
     alloc: Global,
     source: S,
@@ -53,12 +53,12 @@ pub(crate) fn fetched_from<S: SortedSource>(
     n: u64,
 ) -> Result<(Fetched, Option<Position>), NoMemory>
     requires { S.valid source }
-    ensures pieces { IfOk result (λ given. given.0.pieces ≡ fetched (mode_of isolated) count n (within (span_of range.now) (S.cells source))) }
+    ensures pieces { IfOk result (λ given. given.0.pieces ≡ fetch_pieces (mode_of isolated) count n (within (span_of range.now) (S.cells source))) }
     ensures place { IfOk result (λ given. (old : Place) →
-        place_behind given.1 old ≡ moved (mode_of isolated) old (taken (mode_of isolated) count (within (span_of range.now) (S.cells source)))) }
+        place_behind given.1 old ≡ place_after (mode_of isolated) old (take_together (mode_of isolated) count (within (span_of range.now) (S.cells source)))) }
     ensures row { IfOk result (λ given. ForSome given.1 IsAtMostRow) }
     ensures ended { IfOk result (λ given. (left : List Cell) →
-        within (span_of range.now) (S.cells source) ≡ taken (mode_of isolated) count (within (span_of range.now) (S.cells source)) ++ left
+        within (span_of range.now) (S.cells source) ≡ take_together (mode_of isolated) count (within (span_of range.now) (S.cells source)) ++ left
         → given.0.ended ≡ end_of n left) }
 {
     let mut source = source;
@@ -67,7 +67,7 @@ pub(crate) fn fetched_from<S: SortedSource>(
 }
 
 /// What it gives of what is left of a source.
-#[tactic(auto, unfolding(crate::specs::Walks::fetched))]
+#[tactic(auto, unfolding(crate::specs::Walks::fetch_pieces))]
 fn fetched_rest<S: SortedSource>(
     alloc: Global,
     source: &mut S,
@@ -76,12 +76,12 @@ fn fetched_rest<S: SortedSource>(
     n: u64,
 ) -> Result<(Fetched, Option<Position>), NoMemory>
     requires { S.valid source.old }
-    ensures pieces { IfOk result (λ given. given.0.pieces ≡ fetched (mode_of isolated) count n (S.rest source.old)) }
+    ensures pieces { IfOk result (λ given. given.0.pieces ≡ fetch_pieces (mode_of isolated) count n (S.rest source.old)) }
     ensures place { IfOk result (λ given. (old : Place) →
-        place_behind given.1 old ≡ moved (mode_of isolated) old (taken (mode_of isolated) count (S.rest source.old))) }
+        place_behind given.1 old ≡ place_after (mode_of isolated) old (take_together (mode_of isolated) count (S.rest source.old))) }
     ensures row { IfOk result (λ given. ForSome given.1 IsAtMostRow) }
     ensures ended { IfOk result (λ given. (left : List Cell) →
-        S.rest source.old ≡ taken (mode_of isolated) count (S.rest source.old) ++ left → given.0.ended ≡ end_of n left) }
+        S.rest source.old ≡ take_together (mode_of isolated) count (S.rest source.old) ++ left → given.0.ended ≡ end_of n left) }
 {
     let run = take_run(alloc, source, isolated, count)?;
     let ended = end_at(source, n);

@@ -5,7 +5,7 @@ ghost use Rattle.tablet_model.specs.Places.{Place};
 ghost use Rattle.cell_key.specs.Ranges.{place_of, IsAtMostRow};
 ghost use Rattle.cell_key.specs.Views.{cell_of};
 ghost use Rattle.scan_session.specs.Runs.{may_end, place_behind};
-ghost use Rattle.scan_session.specs.Takes.{mode_of, behind, moved, taken, together};
+ghost use Rattle.scan_session.specs.Takes.{mode_of, behind, place_after, take_together, together};
 
 use cell_key::{ByteText, Entries, Entry, EntryRef, Key, NoMemory, Position, compare};
 use iter_contract::SortedSource;
@@ -21,7 +21,7 @@ pub(crate) fn take_run<S: SortedSource>(
 ) -> Result<Entries, NoMemory>
     requires { S.valid source.old }
     ensures valid { S.valid source.new }
-    ensures run { IfOk result (λ run. run ≡ taken (mode_of isolated) count (S.rest source.old)) }
+    ensures run { IfOk result (λ run. run ≡ take_together (mode_of isolated) count (S.rest source.old)) }
     ensures left { IfOk result (λ run. S.rest source.old ≡ run ++ S.rest source.new) }
 {
     let mut run = Entries::new(alloc);
@@ -59,14 +59,14 @@ fn are_together(a: EntryRef<'_>, b: EntryRef<'_>, isolated: bool) -> bool
 }
 
 /// The position behind a run, and none where the run has no entry.
-#[tactic(auto, unfolding(crate::specs::Takes::moved))]
+#[tactic(auto, unfolding(crate::specs::Takes::place_after))]
 pub(crate) fn position_behind_run(
     alloc: Global,
     run: &Entries,
     isolated: bool,
 ) -> Result<Option<Position>, NoMemory>
     ensures place { IfOk result (λ position. (old : Place) →
-        place_behind position old ≡ moved (mode_of isolated) old run.now) }
+        place_behind position old ≡ place_after (mode_of isolated) old run.now) }
     ensures row { IfOk result (λ position. ForSome position IsAtMostRow) }
 {
     match run.as_slice().last() {

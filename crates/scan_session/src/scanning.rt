@@ -11,8 +11,8 @@ ghost use Rattle.iter_config.specs.Stages.{stages_of};
 ghost use Rattle.iter_stack.specs.Usages.{usage_cells};
 ghost use Rattle.iter_stack.specs.declared.usage.Usage.TheVariants.{Scan};
 ghost use Rattle.scan_session.specs.Runs.{place_behind};
-ghost use Rattle.scan_session.specs.Takes.{mode_of, moved, taken};
-ghost use Rattle.scan_session.specs.Walks.{fetched, end_of};
+ghost use Rattle.scan_session.specs.Takes.{mode_of, place_after, take_together};
+ghost use Rattle.scan_session.specs.Walks.{fetch_pieces, end_of};
 
 use crate::fetching::fetched_from;
 use crate::piece::Fetched;
@@ -36,12 +36,12 @@ pub(crate) fn fetched_in<S: SortedSource>(
     requires valid { S.valid leaf }
     requires read { AreUnmarkedRead (stages_of config.now) (S.cells leaf) }
     ensures pieces { IfOk result (λ given. given.0.pieces
-        ≡ fetched (mode_of isolated) count n (within (span_of range.now) (usage_cells config.now Scan (S.cells leaf)))) }
+        ≡ fetch_pieces (mode_of isolated) count n (within (span_of range.now) (usage_cells config.now Scan (S.cells leaf)))) }
     ensures place { IfOk result (λ given. (old : Place) → place_behind given.1 old
-        ≡ moved (mode_of isolated) old (taken (mode_of isolated) count (within (span_of range.now) (usage_cells config.now Scan (S.cells leaf))))) }
+        ≡ place_after (mode_of isolated) old (take_together (mode_of isolated) count (within (span_of range.now) (usage_cells config.now Scan (S.cells leaf))))) }
     ensures row { IfOk result (λ given. ForSome given.1 IsAtMostRow) }
     ensures ended { IfOk result (λ given. (left : List Cell) → within (span_of range.now) (usage_cells config.now Scan (S.cells leaf))
-        ≡ taken (mode_of isolated) count (within (span_of range.now) (usage_cells config.now Scan (S.cells leaf))) ++ left
+        ≡ take_together (mode_of isolated) count (within (span_of range.now) (usage_cells config.now Scan (S.cells leaf))) ++ left
         → given.0.ended ≡ end_of n left) }
 {
     let stack = build(alloc, config, Usage::Scan, leaf)?;

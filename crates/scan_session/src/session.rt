@@ -11,8 +11,8 @@ ghost use Rattle.tablet_view.specs.Snapshot.{Snapshot};
 ghost use Rattle.scan_session.specs.Looks.{Leads, Holds, IsLater};
 ghost use Rattle.scan_session.specs.Sessions.{AnswersInOrder, IsFetch, IsSameScan, TakesEnough, number_of, answers_of, left_of};
 ghost use Rattle.scan_session.specs.Runs.{place_behind};
-ghost use Rattle.scan_session.specs.Takes.{mode_of, moved, taken};
-ghost use Rattle.scan_session.specs.Walks.{Walks, end_of, fetched};
+ghost use Rattle.scan_session.specs.Takes.{mode_of, place_after, take_together};
+ghost use Rattle.scan_session.specs.Walks.{Walks, end_of, fetch_pieces};
 
 use crate::fetching::newest;
 use crate::piece::Fetched;
@@ -39,7 +39,7 @@ impl Model for Session {
     ghost use Rattle.std.specs.Arc.{arc_value};
     ghost use Rattle.cell_key.specs.Ranges.{place_of, IsAtMostRow};
     ghost use Rattle.scan_session.specs.Sessions.{SessionState};
-    ghost use Rattle.scan_session.specs.Takes.{mode_of, moved, taken};
+    ghost use Rattle.scan_session.specs.Takes.{mode_of, place_after, take_together};
 
     ghost Value = { SessionState };
 
@@ -120,12 +120,12 @@ impl Session {
         count: u32,
     ) -> Result<(Fetched, Option<Position>), NoMemory>
         ensures pieces { IfOk result (λ given. given.0.pieces
-            ≡ fetched self.now.mode count (length view.now.log) (left_of (record self.now { view = view.now }))) }
+            ≡ fetch_pieces self.now.mode count (length view.now.log) (left_of (record self.now { view = view.now }))) }
         ensures place { IfOk result (λ given. (old : Place) → place_behind given.1 old
-            ≡ moved self.now.mode old (taken self.now.mode count (left_of (record self.now { view = view.now })))) }
+            ≡ place_after self.now.mode old (take_together self.now.mode count (left_of (record self.now { view = view.now })))) }
         ensures row { IfOk result (λ given. ForSome given.1 IsAtMostRow) }
         ensures ended { IfOk result (λ given. (left : List Cell) → left_of (record self.now { view = view.now })
-            ≡ taken self.now.mode count (left_of (record self.now { view = view.now })) ++ left
+            ≡ take_together self.now.mode count (left_of (record self.now { view = view.now })) ++ left
             → given.0.ended ≡ end_of (length view.now.log) left) }
     {
         let source = view.source(alloc, &self.families)?;

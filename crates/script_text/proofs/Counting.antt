@@ -3,7 +3,7 @@ use Rattle.std.proofs.Common.{◌≡◌, ℕ, ◌≤◌, ◌&&◌, Bool, true, f
 use Rattle.std.specs.Prelude.{if◌then◌else◌, option_map, codes}
 use Rattle.std.specs.Str.{bytes_eq}
 use Rattle.std.proofs.lemmas.Bool.Decides.{nat_tests}
-use Rattle.script_text.specs.Grammar.{compact_of, ended, fetch_of, is_comment, isolated_of, line_by_word, line_of, mutation_of, only_job, only_word, open_of, reading_of, scan_of, session_step_of, updates_of, files_onto}
+use Rattle.script_text.specs.Grammar.{compact_of, with_no_more, fetch_of, is_comment, isolated_of, line_by_word, line_of, mutation_of, only_job, only_word, open_of, reading_of, scan_of, session_step_of, updates_of, files_onto}
 use Rattle.script_text.specs.Numbers.{job_of, number_of, number_to, session_of}
 use Rattle.script_text.specs.Reading.{◌>>=◌}
 use Rattle.script_text.specs.Scans.{behind_families, behind_range, families_in, families_text, range_in, range_word}
@@ -35,7 +35,7 @@ mapped : {A : Type 0} (f : A → Line) → ((a : A) → IsCounted (f a)) → (o 
 mapped f h None = tt
 mapped f h (Some a) = h a
 
-at_end : (words : List (List ℕ)) (line : Option Line) → AllCounted line → AllCounted (ended words line)
+at_end : (words : List (List ℕ)) (line : Option Line) → AllCounted line → AllCounted (with_no_more words line)
 at_end [] line h = h
 at_end (word ∷ words) line h = tt
 

@@ -6,7 +6,7 @@ use Rattle.cell_key.specs.declared.mutation.Update.{Update}
 use Rattle.script_text.specs.Answers.{entry_line, scan_text, found_text}
 use Rattle.script_text.specs.Grammar.{compact_of, delete_of, fetch_of, line_of, mutation_of, open_of, put_of, line_by_word, reading_of, scan_of, update_of}
 use Rattle.script_text.specs.Numbers.{number_of}
-use Rattle.script_text.specs.Scans.{all_keys, bracketed, families_of, optional_row, range_of, rows_between, short_text}
+use Rattle.script_text.specs.Scans.{all_keys, range_in_brackets, families_of, optional_row, range_of, rows_between, short_text}
 use Rattle.tablet_model.specs.Cuts.{Everything, BeforeRow, BehindRow}
 use Rattle.cell_key.specs.FileNumbers.{with_number}
 use Rattle.script_text.specs.Lines.{config_bytes, lines_of, script_lines}
@@ -56,16 +56,16 @@ unfolding reading_of line_by_word scan_of
 whole_scan = refl
 
 scan_of_a_range : line_of (codes "scan [r1,r\\x32) fams=a,") ≡ Some (Scan (record { start = BeforeRow (codes "r1"); end = BeforeRow (codes "r2") }) (Some (codes "a" ∷ [] ∷ [])))
-unfolding reading_of line_by_word scan_of range_of bracketed rows_between optional_row short_text families_of
+unfolding reading_of line_by_word scan_of range_of range_in_brackets rows_between optional_row short_text families_of
 scan_of_a_range = refl
 
 -- an empty row is a missing one, and the first comma cuts
 scan_of_an_odd_range : line_of (codes "scan [(,)) fams=") ≡ Some (Scan (record { start = BeforeRow (codes "("); end = BeforeRow (codes ")") }) (Some ([] ∷ [])))
-unfolding reading_of line_by_word scan_of range_of bracketed rows_between optional_row short_text families_of
+unfolding reading_of line_by_word scan_of range_of range_in_brackets rows_between optional_row short_text families_of
 scan_of_an_odd_range = refl
 
 open_session : line_of (codes "open s01 (,r] isolated") ≡ Some (Session 1 (Open (record { start = Everything; end = BehindRow (codes "r") }) None true))
-unfolding reading_of line_by_word open_of number_of range_of bracketed rows_between optional_row short_text
+unfolding reading_of line_by_word open_of number_of range_of range_in_brackets rows_between optional_row short_text
 open_session = refl
 
 fetch : line_of (codes "fetch s64 0000000010") ≡ Some (Session 64 (Fetch 10))
@@ -117,7 +117,7 @@ two_returns = refl
 
 -- the first byte and the last are the brackets, and there is a comma
 bad_ranges : map line_of (codes "scan r1" ∷ codes "scan [r1]" ∷ codes "scan [r1,r2" ∷ codes "scan [" ∷ codes "scan [r\\x2,]" ∷ codes "scan * *" ∷ []) ≡ None ∷ None ∷ None ∷ None ∷ None ∷ None ∷ []
-unfolding reading_of line_by_word scan_of range_of bracketed rows_between optional_row short_text
+unfolding reading_of line_by_word scan_of range_of range_in_brackets rows_between optional_row short_text
 bad_ranges = refl
 
 bad_numbers : map line_of (codes "open s0" ∷ codes "open s65" ∷ codes "open 1" ∷ codes "fetch s1 0" ∷ codes "fetch s1 1000001" ∷ codes "fetch s1 00000000001" ∷ codes "fetch s1 +1" ∷ codes "compact j0" ∷ codes "finish j1000000" ∷ codes "compact j1 f0" ∷ []) ≡ None ∷ None ∷ None ∷ None ∷ None ∷ None ∷ None ∷ None ∷ None ∷ None ∷ []

@@ -58,16 +58,16 @@ mutation_of (word ∷ words) = do
   Some (Step (Apply (record { row = row; updates = updates })))
 
 -- nothing stands behind a line's words
-abbrev pub ended : List (List ℕ) → Option Line → Option Line
-ended [] line = line
-ended (word ∷ words) line = None
+abbrev pub with_no_more : List (List ℕ) → Option Line → Option Line
+with_no_more [] line = line
+with_no_more (word ∷ words) line = None
 
 -- what stands behind scan: a range, then families, both optional
 unfoldable pub scan_of : List (List ℕ) → Option Line
 scan_of words = do
   range ← range_in (range_word words)
   families ← families_in (families_text (behind_range words))
-  ended (behind_families (behind_range words)) (Some (Scan range families))
+  with_no_more (behind_families (behind_range words)) (Some (Scan range families))
 
 -- the word `isolated`, or nothing
 abbrev pub isolated_of : List (List ℕ) → Option Bool
@@ -149,12 +149,12 @@ line_by_word word words =
     if bytes_eq word (codes "renew") then session_step_of Renew words else
     if bytes_eq word (codes "drop") then session_step_of Drop words else
     if bytes_eq word (codes "close") then session_step_of Close words else
-    if bytes_eq word (codes "freeze") then ended words (Some (Step Freeze)) else
-    if bytes_eq word (codes "flushed") then ended words (Some (Step Flush)) else
+    if bytes_eq word (codes "freeze") then with_no_more words (Some (Step Freeze)) else
+    if bytes_eq word (codes "flushed") then with_no_more words (Some (Step Flush)) else
     if bytes_eq word (codes "compact") then compact_of words else
     if bytes_eq word (codes "compactall") then compact_all_of words else
     if bytes_eq word (codes "finish") then finish_of words else
-    if bytes_eq word (codes "status") then ended words (Some Status) else None
+    if bytes_eq word (codes "status") then with_no_more words (Some Status) else None
 
 -- the reading of a line's words
 unfoldable pub reading_of : List (List ℕ) → Option Line

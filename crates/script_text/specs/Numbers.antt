@@ -18,18 +18,18 @@ number_to most text = do
   if nat_le 1 n && nat_le n most then Some n else None
 
 -- a letter and a number
-abbrev pub lettered : ℕ → ℕ → List ℕ → Option ℕ
-lettered letter most [] = None
-lettered letter most (b ∷ bs) = if b == letter then number_to most bs else None
+abbrev pub letter_and_number : ℕ → ℕ → List ℕ → Option ℕ
+letter_and_number letter most [] = None
+letter_and_number letter most (b ∷ bs) = if b == letter then number_to most bs else None
 
 -- sN, a session from 1 to 64
 abbrev pub session_of : List ℕ → Option ℕ
-session_of word = lettered letter_s 64 word
+session_of word = letter_and_number letter_s 64 word
 
 -- jN, a job from 1 to 999,999
 abbrev pub job_of : List ℕ → Option ℕ
-job_of word = lettered letter_j 999999 word
+job_of word = letter_and_number letter_j 999999 word
 
 -- fN, a file from 1 to 9,999,999,999
 abbrev pub file_of : List ℕ → Option ℕ
-file_of word = lettered letter_f 9999999999 word
+file_of word = letter_and_number letter_f 9999999999 word

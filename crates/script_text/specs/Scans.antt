@@ -56,15 +56,15 @@ rows_between takes_first takes_last text = do
   Some (span_between takes_first first takes_last last)
 
 -- [ROW,ROW] and its kin: the first and the last byte are the brackets
-unfoldable pub bracketed : List ℕ → Option Span
-bracketed word = if nat_lt (length word) 2 then None else do
+unfoldable pub range_in_brackets : List ℕ → Option Span
+range_in_brackets word = if nat_lt (length word) 2 then None else do
   takes_first ← opening (slice_index word 0)
   takes_last ← closing (slice_index word (length word - 1))
   rows_between takes_first takes_last (take (length word - 2) (drop 1 word))
 
 -- RANGE: * for all keys, or rows in brackets
 unfoldable pub range_of : List ℕ → Option Span
-range_of word = if bytes_eq word (codes "*") then Some all_keys else bracketed word
+range_of word = if bytes_eq word (codes "*") then Some all_keys else range_in_brackets word
 
 -- each part is a name
 abbrev pub names_of : List (List ℕ) → Option (List (List ℕ))

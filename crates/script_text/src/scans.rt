@@ -9,7 +9,7 @@ ghost use Rattle.memchr.specs.Find.{is_byte};
 ghost use Rattle.script_text.specs.Code.{comma};
 ghost use Rattle.script_text.specs.Reading.{Gives};
 ghost use Rattle.script_text.specs.Words.{words_of};
-ghost use Rattle.script_text.specs.Scans.{all_keys, behind_families, behind_fams, behind_range, bracketed, closing, end_cut, families_in, families_of, families_text, is_range, names_of, opening, optional_row, range_in, range_of, range_word, rows_between, short_text, span_between, start_cut};
+ghost use Rattle.script_text.specs.Scans.{all_keys, behind_families, behind_fams, behind_range, range_in_brackets, closing, end_cut, families_in, families_of, families_text, is_range, names_of, opening, optional_row, range_in, range_of, range_word, rows_between, short_text, span_between, start_cut};
 
 use crate::line::LineError;
 use crate::parts::{part_text, split_once};
@@ -114,9 +114,9 @@ fn rows_between(
 }
 
 /// Rows in brackets.
-#[tactic(auto, unfolding(crate::specs::Scans::bracketed))]
+#[tactic(auto, unfolding(crate::specs::Scans::range_in_brackets))]
 fn bracketed(alloc: Global, word: &[u8]) -> Result<RangeBuf, LineError>
-    ensures { Gives (λ r. r) (bracketed word.now) result }
+    ensures { Gives (λ r. r) (range_in_brackets word.now) result }
 {
     if word.len() < 2 {
         return Err(LineError::Syntax);

@@ -1,6 +1,6 @@
 //! The words of a line.
 ghost use Rattle.std.specs.Prelude.{◌≡◌, ◌<◌, [], ◌∷◌, length, not, position, MatchOption, IfSome, Some};
-ghost use Rattle.script_text.specs.Grammar.{ended, only_word};
+ghost use Rattle.script_text.specs.Grammar.{with_no_more, only_word};
 ghost use Rattle.script_text.specs.Reading.{Gives};
 ghost use Rattle.script_text.specs.Words.{is_blank, words_of};
 
@@ -55,7 +55,7 @@ pub fn only_word(text: &[u8]) -> Result<&[u8], LineError>
 
 /// A line behind whose words nothing stands.
 pub fn ended(text: &[u8], line: Line) -> Result<Line, LineError>
-    ensures { Gives (λ l. l) (ended (words_of text.now) (Some line)) result }
+    ensures { Gives (λ l. l) (with_no_more (words_of text.now) (Some line)) result }
 {
     match next_word(text) {
         None => Ok(line),

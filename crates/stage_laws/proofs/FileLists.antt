@@ -5,7 +5,7 @@ use Rattle.std.proofs.lemmas.Bool.{eqb-true, eq-eqb}
 use Rattle.tablet_model.specs.Cell.{Cell}
 use Rattle.tablet_model.specs.Stands.{AreApartIds, AreBelow, AreRising, AreThere}
 use Rattle.tablet_model.specs.Steps.{ids_of, takes_all}
-use Rattle.tablet_model.specs.Store.{File, cells_of, has_id, named, unnamed}
+use Rattle.tablet_model.specs.Store.{File, cells_of, has_id, files_with, files_without}
 use Rattle.tablet_model.proofs.Merges.{all_append, all_left, all_right}
 use Rattle.tablet_model.proofs.Sums.{all_filter, all_weaker}
 use Rattle.stage_laws.proofs.Kept.{absurd_bool}
@@ -129,51 +129,51 @@ pub there_append : (files : List File) (f : File) (ids : List ℕ) → AreThere 
 there_append files f ids h = all_weaker (λ i. has_id (ids_of files) i ≡ true) (λ i. has_id (ids_of (files ++ f ∷ [])) i ≡ true) (λ i k. there_append_one f files i k) ids h
 
 -- files of other numbers stay where some are taken away
-there_one : (ids : List ℕ) (files : List File) (i : ℕ) → has_id ids i ≡ false → has_id (ids_of files) i ≡ true → has_id (ids_of (unnamed ids files)) i ≡ true
-unfolding has_id ids_of unnamed
+there_one : (ids : List ℕ) (files : List File) (i : ℕ) → has_id ids i ≡ false → has_id (ids_of files) i ≡ true → has_id (ids_of (files_without ids files)) i ≡ true
+unfolding has_id ids_of files_without
 there_one ids [] i out h = h
-there_one ids (f ∷ fs) i out h = or_elim (list_any (eqb i) (map (λ f. f.id) (cond (not (list_any (eqb f.id) ids)) (f ∷ unnamed ids fs) (unnamed ids fs))) ≡ true) (eqb i f.id) (list_any (eqb i) (map (λ f. f.id) fs)) h
+there_one ids (f ∷ fs) i out h = or_elim (list_any (eqb i) (map (λ f. f.id) (cond (not (list_any (eqb f.id) ids)) (f ∷ files_without ids fs) (files_without ids fs))) ≡ true) (eqb i f.id) (list_any (eqb i) (map (λ f. f.id) fs)) h
     (λ e. go (list_any (eqb f.id) ids) refl e)
     (λ e. later (list_any (eqb f.id) ids) (there_one ids fs i out e))
   where
-    go : (b : Bool) → list_any (eqb f.id) ids ≡ b → eqb i f.id ≡ true → list_any (eqb i) (map (λ f. f.id) (cond (not b) (f ∷ unnamed ids fs) (unnamed ids fs))) ≡ true
-    go false e k = or_left (eqb i f.id) (list_any (eqb i) (map (λ f. f.id) (unnamed ids fs))) k
+    go : (b : Bool) → list_any (eqb f.id) ids ≡ b → eqb i f.id ≡ true → list_any (eqb i) (map (λ f. f.id) (cond (not b) (f ∷ files_without ids fs) (files_without ids fs))) ≡ true
+    go false e k = or_left (eqb i f.id) (list_any (eqb i) (map (λ f. f.id) (files_without ids fs))) k
     go true e k = absurd (absurd_bool (ap (λ j. list_any (eqb j) ids) (eqb-true i f.id k) ∙ e) out)
 
-    later : (b : Bool) → list_any (eqb i) (map (λ f. f.id) (unnamed ids fs)) ≡ true → list_any (eqb i) (map (λ f. f.id) (cond (not b) (f ∷ unnamed ids fs) (unnamed ids fs))) ≡ true
-    later false k = or_right (eqb i f.id) (list_any (eqb i) (map (λ f. f.id) (unnamed ids fs))) k
+    later : (b : Bool) → list_any (eqb i) (map (λ f. f.id) (files_without ids fs)) ≡ true → list_any (eqb i) (map (λ f. f.id) (cond (not b) (f ∷ files_without ids fs) (files_without ids fs))) ≡ true
+    later false k = or_right (eqb i f.id) (list_any (eqb i) (map (λ f. f.id) (files_without ids fs))) k
     later true k = k
 
-pub there_unnamed : (ids : List ℕ) (files : List File) (others : List ℕ) → AreApartIds others ids → AreThere files others → AreThere (unnamed ids files) others
+pub there_unnamed : (ids : List ℕ) (files : List File) (others : List ℕ) → AreApartIds others ids → AreThere files others → AreThere (files_without ids files) others
 there_unnamed ids files [] a h = tt
 there_unnamed ids files (i ∷ is) a h = (there_one ids files i a.0 h.0, there_unnamed ids files is a.1 h.1)
 
 -- a new file is outside a job whose files were there before
-pub named_next : (ids : List ℕ) (files : List File) (f : File) → has_id ids f.id ≡ false → named ids (files ++ f ∷ []) ≡ named ids files
-unfolding named
+pub named_next : (ids : List ℕ) (files : List File) (f : File) → has_id ids f.id ≡ false → files_with ids (files ++ f ∷ []) ≡ files_with ids files
+unfolding files_with
 named_next ids [] f out = ap (λ b. cond b (f ∷ []) []) out
 named_next ids (g ∷ gs) f out = go (has_id ids g.id) (named_next ids gs f out)
   where
-    go : (b : Bool) → named ids (gs ++ f ∷ []) ≡ named ids gs → cond b (g ∷ named ids (gs ++ f ∷ [])) (named ids (gs ++ f ∷ [])) ≡ cond b (g ∷ named ids gs) (named ids gs)
+    go : (b : Bool) → files_with ids (gs ++ f ∷ []) ≡ files_with ids gs → cond b (g ∷ files_with ids (gs ++ f ∷ [])) (files_with ids (gs ++ f ∷ [])) ≡ cond b (g ∷ files_with ids gs) (files_with ids gs)
     go true k = ap (λ l. g ∷ l) k
     go false k = k
 
-pub unnamed_next : (ids : List ℕ) (files : List File) (f : File) → has_id ids f.id ≡ false → unnamed ids (files ++ f ∷ []) ≡ unnamed ids files ++ f ∷ []
-unfolding unnamed
+pub unnamed_next : (ids : List ℕ) (files : List File) (f : File) → has_id ids f.id ≡ false → files_without ids (files ++ f ∷ []) ≡ files_without ids files ++ f ∷ []
+unfolding files_without
 unnamed_next ids [] f out = ap (λ b. cond (not b) (f ∷ []) []) out
 unnamed_next ids (g ∷ gs) f out = go (not (has_id ids g.id)) (unnamed_next ids gs f out)
   where
-    go : (b : Bool) → unnamed ids (gs ++ f ∷ []) ≡ unnamed ids gs ++ f ∷ [] → cond b (g ∷ unnamed ids (gs ++ f ∷ [])) (unnamed ids (gs ++ f ∷ [])) ≡ cond b (g ∷ unnamed ids gs) (unnamed ids gs) ++ f ∷ []
+    go : (b : Bool) → files_without ids (gs ++ f ∷ []) ≡ files_without ids gs ++ f ∷ [] → cond b (g ∷ files_without ids (gs ++ f ∷ [])) (files_without ids (gs ++ f ∷ [])) ≡ cond b (g ∷ files_without ids gs) (files_without ids gs) ++ f ∷ []
     go true k = ap (λ l. g ∷ l) k
     go false k = k
 
 -- where a job takes all files, none is outside
-pub none_unnamed : (ids : List ℕ) (files : List File) → takes_all ids files ≡ true → unnamed ids files ≡ []
-unfolding takes_all unnamed
+pub none_unnamed : (ids : List ℕ) (files : List File) → takes_all ids files ≡ true → files_without ids files ≡ []
+unfolding takes_all files_without
 none_unnamed ids [] h = refl
 none_unnamed ids (f ∷ fs) h =
     let k : (has_id ids f.id ≡ true) × (list_all (λ f. has_id ids f.id) fs ≡ true) = both (has_id ids f.id) (list_all (λ f. has_id ids f.id) fs) h in
-    ap (λ b. cond (not b) (f ∷ unnamed ids fs) (unnamed ids fs)) k.0 ∙ none_unnamed ids fs k.1
+    ap (λ b. cond (not b) (f ∷ files_without ids fs) (files_without ids fs)) k.0 ∙ none_unnamed ids fs k.1
   where
     both : (a b : Bool) → (a && b) ≡ true → (a ≡ true) × (b ≡ true)
     both a b h = grind arith

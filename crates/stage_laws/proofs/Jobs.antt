@@ -12,7 +12,7 @@ use Rattle.tablet_model.specs.Sorted.{later}
 use Rattle.tablet_model.specs.Stages.{Stage}
 use Rattle.tablet_model.specs.Stands.{AreAllNewer, AreApartIds, AreApartJobs, AreBelow, AreThere, HaveOwnNumbers, StandsInJobs}
 use Rattle.tablet_model.specs.Steps.{find_job, first_missing, first_taken, holder, in_job, made_by, no_such_file, takes_all, with_job, without_job}
-use Rattle.tablet_model.specs.Store.{File, RunningJob, Store, cells_of, has_id, input_of, named, unnamed}
+use Rattle.tablet_model.specs.Store.{File, RunningJob, Store, cells_of, has_id, input_of, files_with, files_without}
 use Rattle.tablet_model.proofs.Combines.{all_both}
 use Rattle.tablet_model.proofs.Ingests.{some_none, none_cond, none_first, none_map, none_second}
 use Rattle.tablet_model.proofs.Merges.{all_append, all_sorted}
@@ -136,8 +136,8 @@ jobs_started c s j full ids may all h =
       files_there = all_append (λ t. AreThere s.files t.ids) s.jobs (t ∷ []) h.files_there (may.there, tt);
       own_numbers = own_more s.jobs t may.new_number h.own_numbers;
       files_apart = apart_more s.jobs t may.apart h.files_apart;
-      others_newer = all_append (λ t. t.full ≡ true → AreAllNewer c.plain (cells_of (unnamed t.ids s.files)) (cells_of (named t.ids s.files))) s.jobs (t ∷ []) h.others_newer
-          ((λ e. subst (λ l. AreAllNewer c.plain (cells_of l) (cells_of (named ids s.files))) (sym (none_unnamed ids s.files (all e))) (none c.plain (cells_of (named ids s.files)))), tt);
+      others_newer = all_append (λ t. t.full ≡ true → AreAllNewer c.plain (cells_of (files_without t.ids s.files)) (cells_of (files_with t.ids s.files))) s.jobs (t ∷ []) h.others_newer
+          ((λ e. subst (λ l. AreAllNewer c.plain (cells_of l) (cells_of (files_with ids s.files))) (sym (none_unnamed ids s.files (all e))) (none c.plain (cells_of (files_with ids s.files)))), tt);
     }
 
 -- a new file beside the jobs
@@ -147,16 +147,16 @@ newer_looks plain cols a x y e h p = subst (λ k. AllByRecursion (λ d. plain d 
 abbrev IsNewerThan : (Cell → Bool) → List Cell → Cell → Type 0
 IsNewerThan plain a e = plain e ≡ true → AllByRecursion (λ d. plain d ≡ true → d.key.time <ℤ e.key.time) a
 
-newer_of_more : (plain : Cell → Bool) (ids : List ℕ) (files : List File) (f : File) → has_id ids f.id ≡ false → AreAllNewer plain (cells_of (unnamed ids files)) (cells_of (named ids files)) → AreAllNewer plain f.cells (cells_of (named ids files)) → AreAllNewer plain (cells_of (unnamed ids (files ++ f ∷ []))) (cells_of (named ids (files ++ f ∷ [])))
+newer_of_more : (plain : Cell → Bool) (ids : List ℕ) (files : List File) (f : File) → has_id ids f.id ≡ false → AreAllNewer plain (cells_of (files_without ids files)) (cells_of (files_with ids files)) → AreAllNewer plain f.cells (cells_of (files_with ids files)) → AreAllNewer plain (cells_of (files_without ids (files ++ f ∷ []))) (cells_of (files_with ids (files ++ f ∷ [])))
 newer_of_more plain ids files f out h k =
-    subst (λ l. AreAllNewer plain (cells_of l) (cells_of (named ids (files ++ f ∷ [])))) (sym (unnamed_next ids files f out))
-    (subst (λ l. AreAllNewer plain (cells_of (unnamed ids files ++ f ∷ [])) (cells_of l)) (sym (named_next ids files f out))
-    (cells_one_more (IsNewerThan plain (cells_of (named ids files))) (unnamed ids files) f h k))
+    subst (λ l. AreAllNewer plain (cells_of l) (cells_of (files_with ids (files ++ f ∷ [])))) (sym (unnamed_next ids files f out))
+    (subst (λ l. AreAllNewer plain (cells_of (files_without ids files ++ f ∷ [])) (cells_of l)) (sym (named_next ids files f out))
+    (cells_one_more (IsNewerThan plain (cells_of (files_with ids files))) (files_without ids files) f h k))
 
 -- of fewer files
-pub fewer : (P : Cell → Type 0) (ids : List ℕ) (files : List File) → AllByRecursion P (cells_of files) → AllByRecursion P (cells_of (named ids files))
-unfolding named
-fewer P ids files h = all_cells P (named ids files) (all_filter (AllCells P) (λ f. has_id ids f.id) files (all_files P files h))
+pub fewer : (P : Cell → Type 0) (ids : List ℕ) (files : List File) → AllByRecursion P (cells_of files) → AllByRecursion P (cells_of (files_with ids files))
+unfolding files_with
+fewer P ids files h = all_cells P (files_with ids files) (all_filter (AllCells P) (λ f. has_id ids f.id) files (all_files P files h))
 
 pub jobs_flushed : (c : Rules) (s : Store) (cells : List Cell) → AreBelow s.next s.files → AreAllNewer c.plain cells (cells_of s.files) → StandsInJobs c s → StandsInJobs c (record s { files = s.files ++ record { id = s.next; cells = cells } ∷ []; next = s.next + 1; frozen = None })
 jobs_flushed c s cells nums newer h =
@@ -166,39 +166,39 @@ jobs_flushed c s cells nums newer h =
       files_there = all_weaker (λ t. AreThere s.files t.ids) (λ t. AreThere (s.files ++ f ∷ []) t.ids) (λ t k. there_append s.files f t.ids k) s.jobs h.files_there;
       own_numbers = h.own_numbers;
       files_apart = h.files_apart;
-      others_newer = all_both (λ t. AreThere s.files t.ids) (λ t. t.full ≡ true → AreAllNewer c.plain (cells_of (unnamed t.ids s.files)) (cells_of (named t.ids s.files)))
-          (λ t. t.full ≡ true → AreAllNewer c.plain (cells_of (unnamed t.ids (s.files ++ f ∷ []))) (cells_of (named t.ids (s.files ++ f ∷ []))))
+      others_newer = all_both (λ t. AreThere s.files t.ids) (λ t. t.full ≡ true → AreAllNewer c.plain (cells_of (files_without t.ids s.files)) (cells_of (files_with t.ids s.files)))
+          (λ t. t.full ≡ true → AreAllNewer c.plain (cells_of (files_without t.ids (s.files ++ f ∷ []))) (cells_of (files_with t.ids (s.files ++ f ∷ []))))
           (λ t k l e. newer_of_more c.plain t.ids s.files f (not_next s.next s.files t.ids nums k) (l e)
-          (all_weaker (IsNewerThan c.plain (cells_of s.files)) (IsNewerThan c.plain (cells_of (named t.ids s.files))) (λ e m p. fewer (λ d. c.plain d ≡ true → d.key.time <ℤ e.key.time) t.ids s.files (m p)) cells newer))
+          (all_weaker (IsNewerThan c.plain (cells_of s.files)) (IsNewerThan c.plain (cells_of (files_with t.ids s.files))) (λ e m p. fewer (λ d. c.plain d ≡ true → d.key.time <ℤ e.key.time) t.ids s.files (m p)) cells newer))
           s.jobs h.files_there h.others_newer;
     }
 
 shrink : (P : Cell → Type 0) (p q : File → Bool) (files : List File) → AllByRecursion P (cells_of (filter p files)) → AllByRecursion P (cells_of (filter p (filter q files)))
 shrink P p q files h = all_cells P (filter p (filter q files)) (all_filtered (AllCells P) p (filter q files) (all_filter (λ f. p f ≡ true → AllCells P f) q files (all_where (AllCells P) p files (all_files P (filter p files) h))))
 
-moved : (P : Cell → Type 0) (ids others : List ℕ) (files : List File) → AreApartIds ids others → AllByRecursion P (cells_of (unnamed others files)) → AllByRecursion P (cells_of (named ids files))
-unfolding named unnamed
-moved P ids others files a h = all_cells P (named ids files) (all_filtered (AllCells P) (λ f. has_id ids f.id) files
-    (all_both (λ f. not (has_id others f.id) ≡ true → AllCells P f) (λ f. has_id ids f.id ≡ true → not (has_id others f.id) ≡ true) (λ f. has_id ids f.id ≡ true → AllCells P f) (λ f k l e. k (l e)) files (all_where (AllCells P) (λ f. not (has_id others f.id)) files (all_files P (unnamed others files) h)) (apart_named ids others files a)))
+moved : (P : Cell → Type 0) (ids others : List ℕ) (files : List File) → AreApartIds ids others → AllByRecursion P (cells_of (files_without others files)) → AllByRecursion P (cells_of (files_with ids files))
+unfolding files_with files_without
+moved P ids others files a h = all_cells P (files_with ids files) (all_filtered (AllCells P) (λ f. has_id ids f.id) files
+    (all_both (λ f. not (has_id others f.id) ≡ true → AllCells P f) (λ f. has_id ids f.id ≡ true → not (has_id others f.id) ≡ true) (λ f. has_id ids f.id ≡ true → AllCells P f) (λ f k l e. k (l e)) files (all_where (AllCells P) (λ f. not (has_id others f.id)) files (all_files P (files_without others files) h)) (apart_named ids others files a)))
 
-shrink_named : (P : Cell → Type 0) (ids others : List ℕ) (files : List File) → AllByRecursion P (cells_of (named ids files)) → AllByRecursion P (cells_of (named ids (unnamed others files)))
-unfolding named unnamed
+shrink_named : (P : Cell → Type 0) (ids others : List ℕ) (files : List File) → AllByRecursion P (cells_of (files_with ids files)) → AllByRecursion P (cells_of (files_with ids (files_without others files)))
+unfolding files_with files_without
 shrink_named P ids others files h = shrink P (λ f. has_id ids f.id) (λ f. not (has_id others f.id)) files h
 
-shrink_unnamed : (P : Cell → Type 0) (ids others : List ℕ) (files : List File) → AllByRecursion P (cells_of (unnamed ids files)) → AllByRecursion P (cells_of (unnamed ids (unnamed others files)))
-unfolding unnamed
+shrink_unnamed : (P : Cell → Type 0) (ids others : List ℕ) (files : List File) → AllByRecursion P (cells_of (files_without ids files)) → AllByRecursion P (cells_of (files_without ids (files_without others files)))
+unfolding files_without
 shrink_unnamed P ids others files h = shrink P (λ f. not (has_id ids f.id)) (λ f. not (has_id others f.id)) files h
 
-pub fewer_files : (P : Cell → Type 0) (ids : List ℕ) (files : List File) → AllByRecursion P (cells_of files) → AllByRecursion P (cells_of (unnamed ids files))
-unfolding unnamed
-fewer_files P ids files h = all_cells P (unnamed ids files) (all_filter (AllCells P) (λ f. not (has_id ids f.id)) files (all_files P files h))
+pub fewer_files : (P : Cell → Type 0) (ids : List ℕ) (files : List File) → AllByRecursion P (cells_of files) → AllByRecursion P (cells_of (files_without ids files))
+unfolding files_without
+fewer_files P ids files h = all_cells P (files_without ids files) (all_filter (AllCells P) (λ f. not (has_id ids f.id)) files (all_files P files h))
 
 -- the first stages of a configuration keep keys
 first_keys : (c : Rules) → AreSound c → (ps : List Stage) → StandsFirst ps c.base → AllByRecursion KeepsKeys ps
 first_keys c law ps first = accepted_first ps first.0 (subst AreAccepted (sym first.1) law.accepted)
 
 -- what a job makes has keys of its input
-pub made_keys : (P : Cell → Type 0) → LooksAtKeys P → (c : Rules) → AreSound c → (s : Store) (t : RunningJob) → AllByRecursion P (cells_of (named t.ids s.files)) → AllByRecursion P (made_by c s t)
+pub made_keys : (P : Cell → Type 0) → LooksAtKeys P → (c : Rules) → AreSound c → (s : Store) (t : RunningJob) → AllByRecursion P (cells_of (files_with t.ids s.files)) → AllByRecursion P (made_by c s t)
 unfolding made_by input_of mark live
 made_keys P looks c law s t h = go t.full
   where
@@ -206,7 +206,7 @@ made_keys P looks c law s t h = go t.full
     keys = first_keys c law c.major law.major_first
 
     input : AllByRecursion P (input_of t.ids s.files)
-    input = all_sorted above above_exact P (cells_of (named t.ids s.files)) h
+    input = all_sorted above above_exact P (cells_of (files_with t.ids s.files)) h
 
     go : (b : Bool) → AllByRecursion P (cond b (full_compaction c.major (input_of t.ids s.files)) (partial_compaction c.major (input_of t.ids s.files)))
     go true = keys_stages P looks c.major keys (live (input_of t.ids s.files)) (all_filter P (is_live (input_of t.ids s.files)) (input_of t.ids s.files) input)
@@ -216,8 +216,8 @@ pub minor_keys : (P : Cell → Type 0) → LooksAtKeys P → (c : Rules) → Are
 unfolding mark
 minor_keys P looks c law list h = keys_stages P looks c.minor (first_keys c law c.minor law.minor_first) (mark list) (all_kept P is_unmarked [] list h)
 
-below_left : (next : ℕ) (ids : List ℕ) (files : List File) → AreBelow next files → AreBelow next (unnamed ids files)
-unfolding unnamed
+below_left : (next : ℕ) (ids : List ℕ) (files : List File) → AreBelow next files → AreBelow next (files_without ids files)
+unfolding files_without
 below_left next ids files h = all_filter (λ f. f.id < next) (λ f. not (has_id ids f.id)) files h
 
 own_fewer : (p : RunningJob → Bool) (jobs : List RunningJob) → HaveOwnNumbers jobs → HaveOwnNumbers (filter p jobs)
@@ -238,7 +238,7 @@ jobs_finished c law s j t found nums h = record {
   files_apart = all_filter (λ u. AllByRecursion (λ v. eqb u.job v.job ≡ false → AreApartIds u.ids v.ids) (filter other s.jobs)) other s.jobs
       (all_weaker (λ u. AllByRecursion (λ v. eqb u.job v.job ≡ false → AreApartIds u.ids v.ids) s.jobs) (λ u. AllByRecursion (λ v. eqb u.job v.job ≡ false → AreApartIds u.ids v.ids) (filter other s.jobs)) (λ u k. all_filter (λ v. eqb u.job v.job ≡ false → AreApartIds u.ids v.ids) other s.jobs k) s.jobs h.files_apart);
   others_newer = all_filtered IsNewerAfter other s.jobs
-      (all_both (λ u. AreThere s.files u.ids × AreApartFrom u) (λ u. u.full ≡ true → AreAllNewer c.plain (cells_of (unnamed u.ids s.files)) (cells_of (named u.ids s.files))) (λ u. other u ≡ true → IsNewerAfter u) (λ u k l o e. newer u k.0 (k.1 (true_not (eqb t.job u.job) o)) (l e)) s.jobs
+      (all_both (λ u. AreThere s.files u.ids × AreApartFrom u) (λ u. u.full ≡ true → AreAllNewer c.plain (cells_of (files_without u.ids s.files)) (cells_of (files_with u.ids s.files))) (λ u. other u ≡ true → IsNewerAfter u) (λ u k l o e. newer u k.0 (k.1 (true_not (eqb t.job u.job) o)) (l e)) s.jobs
       (all_both (λ u. AreThere s.files u.ids) AreApartFrom (λ u. AreThere s.files u.ids × AreApartFrom u) (λ u a b. (a, b)) s.jobs h.files_there apart) h.others_newer);
 }
   where
@@ -246,7 +246,7 @@ jobs_finished c law s j t found nums h = record {
     other u = not (eqb t.job u.job)
 
     left : List File
-    left = unnamed t.ids s.files
+    left = files_without t.ids s.files
 
     f : File
     f = record { id = s.next; cells = made_by c s t }
@@ -255,14 +255,14 @@ jobs_finished c law s j t found nums h = record {
     AreApartFrom u = eqb t.job u.job ≡ false → AreApartIds t.ids u.ids
 
     IsNewerAfter : RunningJob → Type 0
-    IsNewerAfter u = u.full ≡ true → AreAllNewer c.plain (cells_of (unnamed u.ids (left ++ f ∷ []))) (cells_of (named u.ids (left ++ f ∷ [])))
+    IsNewerAfter u = u.full ≡ true → AreAllNewer c.plain (cells_of (files_without u.ids (left ++ f ∷ []))) (cells_of (files_with u.ids (left ++ f ∷ [])))
 
     apart : AllByRecursion AreApartFrom s.jobs
     apart = found_job (λ t. AllByRecursion (λ u. eqb t.job u.job ≡ false → AreApartIds t.ids u.ids) s.jobs) j s.jobs t found h.files_apart
 
-    newer : (u : RunningJob) → AreThere s.files u.ids → AreApartIds t.ids u.ids → AreAllNewer c.plain (cells_of (unnamed u.ids s.files)) (cells_of (named u.ids s.files)) → AreAllNewer c.plain (cells_of (unnamed u.ids (left ++ f ∷ []))) (cells_of (named u.ids (left ++ f ∷ [])))
+    newer : (u : RunningJob) → AreThere s.files u.ids → AreApartIds t.ids u.ids → AreAllNewer c.plain (cells_of (files_without u.ids s.files)) (cells_of (files_with u.ids s.files)) → AreAllNewer c.plain (cells_of (files_without u.ids (left ++ f ∷ []))) (cells_of (files_with u.ids (left ++ f ∷ [])))
     newer u there out k =
-        let less : AreAllNewer c.plain (cells_of (unnamed u.ids s.files)) (cells_of (named u.ids left)) = all_weaker (IsNewerThan c.plain (cells_of (named u.ids s.files))) (IsNewerThan c.plain (cells_of (named u.ids left))) (λ e m p. shrink_named (λ d. c.plain d ≡ true → d.key.time <ℤ e.key.time) u.ids t.ids s.files (m p)) (cells_of (unnamed u.ids s.files)) k in
+        let less : AreAllNewer c.plain (cells_of (files_without u.ids s.files)) (cells_of (files_with u.ids left)) = all_weaker (IsNewerThan c.plain (cells_of (files_with u.ids s.files))) (IsNewerThan c.plain (cells_of (files_with u.ids left))) (λ e m p. shrink_named (λ d. c.plain d ≡ true → d.key.time <ℤ e.key.time) u.ids t.ids s.files (m p)) (cells_of (files_without u.ids s.files)) k in
         newer_of_more c.plain u.ids left f (not_next s.next s.files u.ids nums there)
-        (shrink_unnamed (IsNewerThan c.plain (cells_of (named u.ids left))) u.ids t.ids s.files less)
-        (made_keys (IsNewerThan c.plain (cells_of (named u.ids left))) (newer_looks c.plain law.plain_columns (cells_of (named u.ids left))) c law s t (moved (IsNewerThan c.plain (cells_of (named u.ids left))) t.ids u.ids s.files out less))
+        (shrink_unnamed (IsNewerThan c.plain (cells_of (files_with u.ids left))) u.ids t.ids s.files less)
+        (made_keys (IsNewerThan c.plain (cells_of (files_with u.ids left))) (newer_looks c.plain law.plain_columns (cells_of (files_with u.ids left))) c law s t (moved (IsNewerThan c.plain (cells_of (files_with u.ids left))) t.ids u.ids s.files out less))

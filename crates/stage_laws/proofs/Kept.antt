@@ -3,12 +3,12 @@ use Rattle.std.proofs.Common.{◌≡◌, ◌||◌, ◌&&◌, not, Bool, true, fa
 use Rattle.std.specs.List.{AllByRecursion, filter, list_any}
 use Rattle.tablet_model.specs.Cell.{Cell}
 use Rattle.tablet_model.specs.Order.{same_column}
-use Rattle.tablet_model.specs.Kept.{kept}
+use Rattle.tablet_model.specs.Kept.{filter_beside}
 use Rattle.tablet_model.specs.Markers.{put_beside}
 use Rattle.tablet_model.specs.Versions.{versions, is_recent}
-use Rattle.tablet_model.specs.Filters.{filtered}
-use Rattle.tablet_model.specs.Reductions.{Reduction, IsLawful, reduced}
-use Rattle.tablet_model.specs.Combines.{combined, leads, rewritten, joined_value}
+use Rattle.tablet_model.specs.Filters.{filter_puts}
+use Rattle.tablet_model.specs.Reductions.{Reduction, IsLawful, reduce_values}
+use Rattle.tablet_model.specs.Combines.{combine_columns, leads, with_joined_value, joined_value}
 use Rattle.tablet_model.specs.Stages.{Stage, by_column, by_cell, newest, combine, rows, intersect, stage, stages}
 use Rattle.tablet_model.specs.Accepted.{IsOfColumns, IsWellMade, AreAccepted, MayFollow, IsBeside}
 use Rattle.tablet_model.specs.Reading.{IsReadBy, AreUnmarkedRead}
@@ -90,11 +90,11 @@ pub stands_from : (pre suf : List Cell) → AllByRecursion (λ e. e.key.deleted 
 stands_from pre [] = tt
 stands_from pre (e ∷ es) = ((λ d. any_here e pre es d), subst (λ l. AllByRecursion (λ y. y.key.deleted ≡ false → list_any (put_beside y) l ≡ true) es) (append_assoc pre (e ∷ []) es) (stands_from (pre ++ e ∷ []) es))
 
-pub reduced_some : (r : Reduction) → IsLawful r → (list : List Cell) (test : Cell → Bool) → list_any test list ≡ true → AllRead r (filter test list) → r.reads (reduced r (values (filter test list))) ≡ true
+pub reduced_some : (r : Reduction) → IsLawful r → (list : List Cell) (test : Cell → Bool) → list_any test list ≡ true → AllRead r (filter test list) → r.reads (reduce_values r (values (filter test list))) ≡ true
 reduced_some r law [] test h all = absurd (grind arith)
 reduced_some r law (e ∷ es) test h all = go (test e) h all (reduced_some r law es test)
   where
-    go : (b : Bool) → (b || list_any test es) ≡ true → AllRead r (cond b (e ∷ filter test es) (filter test es)) → (list_any test es ≡ true → AllRead r (filter test es) → r.reads (reduced r (values (filter test es))) ≡ true) → r.reads (reduced r (values (cond b (e ∷ filter test es) (filter test es)))) ≡ true
+    go : (b : Bool) → (b || list_any test es) ≡ true → AllRead r (cond b (e ∷ filter test es) (filter test es)) → (list_any test es ≡ true → AllRead r (filter test es) → r.reads (reduce_values r (values (filter test es))) ≡ true) → r.reads (reduce_values r (values (cond b (e ∷ filter test es) (filter test es)))) ≡ true
     go true k a ih = reduced_read r law e (filter test es) a
     go false k a ih = ih k a
 
@@ -121,8 +121,8 @@ pub made_at : (us vs : List Stage) (s : Stage) → AreAccepted (us ++ s ∷ vs) 
 made_at [] vs s h = h.0
 made_at (u ∷ us) vs s h = made_at us vs s h.1.1
 
-read_rewritten : (us vs : List Stage) (listed : Cell → Bool) (r : Reduction) (full : Bool) (list : List Cell) → AreAccepted (us ++ combine listed r full ∷ vs) → AreUnmarkedRead (us ++ combine listed r full ∷ vs) list → (e : Cell) → (IsUnmarkedRead (us ++ combine listed r full ∷ vs) e × (e.key.deleted ≡ false → list_any (put_beside e) list ≡ true)) → IsUnmarkedRead (us ++ combine listed r full ∷ vs) (rewritten listed r list e)
-unfolding rewritten joined_value
+read_rewritten : (us vs : List Stage) (listed : Cell → Bool) (r : Reduction) (full : Bool) (list : List Cell) → AreAccepted (us ++ combine listed r full ∷ vs) → AreUnmarkedRead (us ++ combine listed r full ∷ vs) list → (e : Cell) → (IsUnmarkedRead (us ++ combine listed r full ∷ vs) e × (e.key.deleted ≡ false → list_any (put_beside e) list ≡ true)) → IsUnmarkedRead (us ++ combine listed r full ∷ vs) (with_joined_value listed r list e)
+unfolding with_joined_value joined_value
 read_rewritten us vs listed r full list acc all e h = go e.key.deleted refl (listed e) refl
   where
     ss : List Stage
@@ -134,20 +134,20 @@ read_rewritten us vs listed r full list acc all e h = go e.key.deleted refl (lis
     reading : listed e ≡ true → AllByRecursion (λ m. put_beside e m ≡ true → r.reads m.value ≡ true) list
     reading l = all_weaker (IsUnmarkedRead ss) (λ m. put_beside e m ≡ true → r.reads m.value ≡ true) (λ m k b. read_at us vs (combine listed r full) m (k (put_live e m b)) (made.0 e m (put_column e m b) ∙ l)) list all
 
-    go : (d : Bool) → e.key.deleted ≡ d → (b : Bool) → listed e ≡ b → IsUnmarkedRead ss (cond (not d && b) (record { key = e.key; value = reduced r (map (λ p. p.value) (filter (put_beside e) list)) }) e)
+    go : (d : Bool) → e.key.deleted ≡ d → (b : Bool) → listed e ≡ b → IsUnmarkedRead ss (cond (not d && b) (record { key = e.key; value = reduce_values r (map (λ p. p.value) (filter (put_beside e) list)) }) e)
     go true d b l = h.0
-    go false d true l = λ k. read_split us vs listed r full (record { key = e.key; value = reduced r (map (λ p. p.value) (filter (put_beside e) list)) }) acc (listed_key e (record { key = e.key; value = reduced r (map (λ p. p.value) (filter (put_beside e) list)) }) refl made.0 ∙ l) (reduced_some r made.1 list (put_beside e) (h.1 d) (filter_read r (put_beside e) list (reading l)))
+    go false d true l = λ k. read_split us vs listed r full (record { key = e.key; value = reduce_values r (map (λ p. p.value) (filter (put_beside e) list)) }) acc (listed_key e (record { key = e.key; value = reduce_values r (map (λ p. p.value) (filter (put_beside e) list)) }) refl made.0 ∙ l) (reduced_some r made.1 list (put_beside e) (h.1 d) (filter_read r (put_beside e) list (reading l)))
     go false d false l = h.0
 
 -- what the stages of an accepted list make is read again by all of them
 read_stage : (us vs : List Stage) (s : Stage) (list : List Cell) → AreAccepted (us ++ s ∷ vs) → AreUnmarkedRead (us ++ s ∷ vs) list → AreUnmarkedRead (us ++ s ∷ vs) (stage s list)
-unfolding stage filtered versions combined
+unfolding stage filter_puts versions combine_columns
 read_stage us vs (by_column p) list acc h = all_filter (IsUnmarkedRead (us ++ by_column p ∷ vs)) (λ e. e.key.deleted || p e) list h
 read_stage us vs (by_cell p) list acc h = all_filter (IsUnmarkedRead (us ++ by_cell p ∷ vs)) (λ e. e.key.deleted || p e) list h
 read_stage us vs (newest n) list acc h = all_kept (IsUnmarkedRead (us ++ newest n ∷ vs)) (is_recent n) [] list h
 read_stage us vs (combine listed r full) list acc h =
     let P : Cell → Type 0 = λ e. IsUnmarkedRead (us ++ combine listed r full ∷ vs) e × (e.key.deleted ≡ false → list_any (put_beside e) list ≡ true) in
-    all_map P (IsUnmarkedRead (us ++ combine listed r full ∷ vs)) (rewritten listed r list) (read_rewritten us vs listed r full list acc h) (kept (leads listed) [] list)
+    all_map P (IsUnmarkedRead (us ++ combine listed r full ∷ vs)) (with_joined_value listed r list) (read_rewritten us vs listed r full list acc h) (filter_beside (leads listed) [] list)
     (all_kept P (leads listed) [] list (all_and (IsUnmarkedRead (us ++ combine listed r full ∷ vs)) (λ e. e.key.deleted ≡ false → list_any (put_beside e) list ≡ true) list h (stands_from [] list)))
 read_stage us vs rows list acc h = absurd (made_at us vs rows acc)
 read_stage us vs (intersect terms without) list acc h = absurd (made_at us vs (intersect terms without) acc)

@@ -3,7 +3,7 @@ use Rattle.std.proofs.Common.{◌≡◌, ◌||◌, ◌&&◌, not, ℕ, ◌+◌, 
 use Rattle.std.proofs.lemmas.Int.{ints}
 use Rattle.std.specs.List.{AllByRecursion}
 use Rattle.tablet_model.specs.Cell.{Cell}
-use Rattle.tablet_model.specs.History.{Change, RowChange, entries_of, entry_of, is_delete, numbered}
+use Rattle.tablet_model.specs.History.{Change, RowChange, entries_of, entry_of, is_delete, entries_from}
 use Rattle.tablet_model.specs.Ingest.{AreLetIn, bad_value, delete_here, duplicate, first_twice, first_where, ingest, is_mistimed, is_read, is_refused_delete, is_unread, out_of_bounds, time_here}
 use Rattle.tablet_model.specs.Reading.{IsReadBy}
 use Rattle.tablet_model.specs.Rules.{AreStorable, IsStorable, Rules}
@@ -112,15 +112,15 @@ pub within_added : (c : Rules) (n : ℕ) (m : RowChange) → ingest c n m ≡ No
 within_added c n m h = let f : IsFound c n m = found c n m h in all_entries (IsWithin c.plain n (n + 1)) (IsLetIn c m (n + 1)) (entry_of m.row (pos (n + 1))) (λ u k. own_time c m n u k.timed) m.changes f.changes
 
 -- of a whole history
-pub storable_numbered : (c : Rules) (n : ℕ) (h : List RowChange) → AreLetIn c n h → AreStorable c (numbered n h)
+pub storable_numbered : (c : Rules) (n : ℕ) (h : List RowChange) → AreLetIn c n h → AreStorable c (entries_from n h)
 storable_numbered c n [] k = tt
-storable_numbered c n (m ∷ ms) k = all_append (IsStorable c) (entries_of (pos (n + 1)) m) (numbered (n + 1) ms) (storable_added c n m k.0) (storable_numbered c (n + 1) ms k.1)
+storable_numbered c n (m ∷ ms) k = all_append (IsStorable c) (entries_of (pos (n + 1)) m) (entries_from (n + 1) ms) (storable_added c n m k.0) (storable_numbered c (n + 1) ms k.1)
 
-pub within_numbered : (c : Rules) (n : ℕ) (h : List RowChange) → AreLetIn c n h → AreWithin c.plain n (n + length h) (numbered n h)
+pub within_numbered : (c : Rules) (n : ℕ) (h : List RowChange) → AreLetIn c n h → AreWithin c.plain n (n + length h) (entries_from n h)
 within_numbered c n [] k = tt
-within_numbered c n (m ∷ ms) k = all_append (IsWithin c.plain n (n + length (m ∷ ms))) (entries_of (pos (n + 1)) m) (numbered (n + 1) ms)
+within_numbered c n (m ∷ ms) k = all_append (IsWithin c.plain n (n + length (m ∷ ms))) (entries_of (pos (n + 1)) m) (entries_from (n + 1) ms)
     (within_weaker c.plain n n (n + 1) (n + length (m ∷ ms)) (entries_of (pos (n + 1)) m) (omega arith) (more (length ms)) (within_added c n m k.0))
-    (within_weaker c.plain (n + 1) n (n + 1 + length ms) (n + length (m ∷ ms)) (numbered (n + 1) ms) (omega arith) (same (length ms)) (within_numbered c (n + 1) ms k.1))
+    (within_weaker c.plain (n + 1) n (n + 1 + length ms) (n + length (m ∷ ms)) (entries_from (n + 1) ms) (omega arith) (same (length ms)) (within_numbered c (n + 1) ms k.1))
   where
     more : (l : ℕ) → n + 1 ≤ n + length (m ∷ ms)
     more l = grind arith

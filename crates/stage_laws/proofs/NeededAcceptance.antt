@@ -7,12 +7,12 @@ use Rattle.tablet_model.specs.Cell.{Cell}
 use Rattle.tablet_model.specs.Order.{column_cmp, time_cmp, key_cmp, cell_cmp, above, same_column}
 use Rattle.tablet_model.specs.Sorted.{put, sorted, Ascends}
 use Rattle.tablet_model.specs.Sum.{sum_of}
-use Rattle.tablet_model.specs.Kept.{kept}
+use Rattle.tablet_model.specs.Kept.{filter_beside}
 use Rattle.tablet_model.specs.Markers.{put_beside}
 use Rattle.tablet_model.specs.Versions.{is_recent, versions}
-use Rattle.tablet_model.specs.Filters.{filtered}
-use Rattle.tablet_model.specs.Reductions.{Reduction, IsLawful, join_from, reduced}
-use Rattle.tablet_model.specs.Combines.{leads, joined_value, rewritten, combined}
+use Rattle.tablet_model.specs.Filters.{filter_puts}
+use Rattle.tablet_model.specs.Reductions.{Reduction, IsLawful, join_from, reduce_values}
+use Rattle.tablet_model.specs.Combines.{leads, joined_value, with_joined_value, combine_columns}
 use Rattle.tablet_model.specs.Stages.{Stage, by_cell, newest, combine, stage, stages}
 use Rattle.tablet_model.specs.Accepted.{IsWellMade}
 use Rattle.tablet_model.specs.Reading.{AreRead}
@@ -58,7 +58,7 @@ count_then_filter = combine always tally true ∷ by_cell (has_value (codes "||"
 
 no_cell_filter_behind_a_combiner : (early count_then_filter (put_x 1 (codes "|") ∷ []) (put_x 2 (codes "|") ∷ []) ≡ [])
     × (late count_then_filter (put_x 1 (codes "|") ∷ []) (put_x 2 (codes "|") ∷ []) ≡ put_x 2 (codes "||") ∷ [])
-unfolding stages stage sum_of sorted put above cell_cmp key_cmp column_cmp time_cmp combined kept leads rewritten joined_value put_beside same_column reduced join_from filtered
+unfolding stages stage sum_of sorted put above cell_cmp key_cmp column_cmp time_cmp combine_columns filter_beside leads with_joined_value joined_value put_beside same_column reduce_values join_from filter_puts
 no_cell_filter_behind_a_combiner = (refl, refl)
 
 count_then_filter_is_well_made : AllByRecursion IsWellMade count_then_filter
@@ -73,7 +73,7 @@ filter_then_count = by_cell (has_value (codes "|")) ∷ combine always tally tru
 
 no_cell_filter_before_a_combiner : (early filter_then_count (put_x 2 (codes "|") ∷ put_x 1 (codes "|") ∷ []) [] ≡ [])
     × (late filter_then_count (put_x 2 (codes "|") ∷ put_x 1 (codes "|") ∷ []) [] ≡ put_x 2 (codes "||") ∷ [])
-unfolding stages stage sum_of sorted put above cell_cmp key_cmp column_cmp time_cmp combined kept leads rewritten joined_value put_beside same_column reduced join_from filtered
+unfolding stages stage sum_of sorted put above cell_cmp key_cmp column_cmp time_cmp combine_columns filter_beside leads with_joined_value joined_value put_beside same_column reduce_values join_from filter_puts
 no_cell_filter_before_a_combiner = (refl, refl)
 
 filter_then_count_is_well_made : AllByRecursion IsWellMade filter_then_count
@@ -88,7 +88,7 @@ two_versions_then_count = newest 2 ∷ combine always tally true ∷ []
 
 no_combiner_behind_versions : (early two_versions_then_count (put_x 2 (codes "|") ∷ put_x 1 (codes "|") ∷ []) (put_x 3 (codes "|") ∷ []) ≡ put_x 3 (codes "|||") ∷ [])
     × (late two_versions_then_count (put_x 2 (codes "|") ∷ put_x 1 (codes "|") ∷ []) (put_x 3 (codes "|") ∷ []) ≡ put_x 3 (codes "||") ∷ [])
-unfolding stages stage sum_of sorted put above cell_cmp key_cmp column_cmp time_cmp combined kept leads rewritten joined_value put_beside same_column reduced join_from versions is_recent
+unfolding stages stage sum_of sorted put above cell_cmp key_cmp column_cmp time_cmp combine_columns filter_beside leads with_joined_value joined_value put_beside same_column reduce_values join_from versions is_recent
 no_combiner_behind_versions = (refl, refl)
 
 two_versions_then_count_is_well_made : AllByRecursion IsWellMade two_versions_then_count
@@ -103,7 +103,7 @@ one_version_then_filter = newest 1 ∷ by_cell (has_value (codes "a")) ∷ []
 
 no_cell_filter_behind_versions : (early one_version_then_filter (put_x 2 (codes "b") ∷ []) (put_x 1 (codes "a") ∷ []) ≡ put_x 1 (codes "a") ∷ [])
     × (late one_version_then_filter (put_x 2 (codes "b") ∷ []) (put_x 1 (codes "a") ∷ []) ≡ [])
-unfolding stages stage sum_of sorted put above cell_cmp key_cmp column_cmp time_cmp combined kept leads rewritten joined_value put_beside same_column reduced join_from filtered versions is_recent
+unfolding stages stage sum_of sorted put above cell_cmp key_cmp column_cmp time_cmp combine_columns filter_beside leads with_joined_value joined_value put_beside same_column reduce_values join_from filter_puts versions is_recent
 no_cell_filter_behind_versions = (refl, refl)
 
 one_version_then_filter_is_well_made : AllByRecursion IsWellMade one_version_then_filter
@@ -166,7 +166,7 @@ count_then_largest = combine always tally true ∷ combine always largest true �
 
 no_two_combiners_of_one_column : (early count_then_largest (put_x 1 (codes "|") ∷ []) (put_x 2 (codes "|") ∷ []) ≡ put_x 2 (codes "|||") ∷ [])
     × (late count_then_largest (put_x 1 (codes "|") ∷ []) (put_x 2 (codes "|") ∷ []) ≡ put_x 2 (codes "||") ∷ [])
-unfolding stages stage sum_of sorted put above cell_cmp key_cmp column_cmp time_cmp combined kept leads rewritten joined_value put_beside same_column reduced join_from
+unfolding stages stage sum_of sorted put above cell_cmp key_cmp column_cmp time_cmp combine_columns filter_beside leads with_joined_value joined_value put_beside same_column reduce_values join_from
 no_two_combiners_of_one_column = (refl, refl)
 
 count_then_largest_is_well_made : AllByRecursion IsWellMade count_then_largest
@@ -188,5 +188,5 @@ append_in_order = combine always appending true ∷ []
 
 no_join_that_depends_on_order : (early (append_in_order) (put_x 3 (codes "c") ∷ put_x 1 (codes "a") ∷ []) (put_x 2 (codes "b") ∷ []) ≡ put_x 3 (codes "cab") ∷ [])
     × (late (append_in_order) (put_x 3 (codes "c") ∷ put_x 1 (codes "a") ∷ []) (put_x 2 (codes "b") ∷ []) ≡ put_x 3 (codes "cba") ∷ [])
-unfolding stages stage sum_of sorted put above cell_cmp key_cmp column_cmp time_cmp combined kept leads rewritten joined_value put_beside same_column reduced join_from
+unfolding stages stage sum_of sorted put above cell_cmp key_cmp column_cmp time_cmp combine_columns filter_beside leads with_joined_value joined_value put_beside same_column reduce_values join_from
 no_join_that_depends_on_order = (refl, refl)

@@ -6,11 +6,11 @@ use Rattle.tablet_model.specs.Cell.{Cell}
 use Rattle.tablet_model.specs.Order.{column_cmp, time_cmp, key_cmp, cell_cmp, above, same_column}
 use Rattle.tablet_model.specs.Sorted.{put, sorted, Ascends}
 use Rattle.tablet_model.specs.Sum.{sum_of}
-use Rattle.tablet_model.specs.Kept.{kept}
+use Rattle.tablet_model.specs.Kept.{filter_beside}
 use Rattle.tablet_model.specs.Markers.{marker_beside, put_beside, hides, is_live, live, is_unmarked, mark}
 use Rattle.tablet_model.specs.Versions.{is_recent, versions}
-use Rattle.tablet_model.specs.Reductions.{Reduction, IsLawful, join_from, reduced}
-use Rattle.tablet_model.specs.Combines.{leads, joined_value, rewritten, combined}
+use Rattle.tablet_model.specs.Reductions.{Reduction, IsLawful, join_from, reduce_values}
+use Rattle.tablet_model.specs.Combines.{leads, joined_value, with_joined_value, combine_columns}
 use Rattle.tablet_model.specs.Stages.{Stage, newest, combine, stage, stages}
 use Rattle.tablet_model.specs.Accepted.{IsOfColumns, IsWellMade, AreAccepted, AreDeletable, IsNotNewest, is_full}
 use Rattle.tablet_model.specs.Reading.{AreUnmarkedRead}
@@ -64,7 +64,7 @@ marker_read full = ((λ d. ((λ l. refl), tt)), tt)
 -- minor: the others' markers are newer than the whole part, or older; else what is joined early is not hidden
 a_marker_in_the_middle_of_a_minor_compaction : (scan (counting true) (minor_compaction (counting true) puts) marker_between ≡ put_x 3 (codes "||") ∷ [])
     × (scan (counting true) puts marker_between ≡ put_x 3 (codes "|") ∷ [])
-unfolding stages stage sum_of sorted put above cell_cmp key_cmp column_cmp time_cmp combined kept leads rewritten joined_value put_beside same_column reduced join_from mark is_unmarked marker_beside live is_live hides
+unfolding stages stage sum_of sorted put above cell_cmp key_cmp column_cmp time_cmp combine_columns filter_beside leads with_joined_value joined_value put_beside same_column reduce_values join_from mark is_unmarked marker_beside live is_live hides
 a_marker_in_the_middle_of_a_minor_compaction = (refl, refl)
 
 minor_without_it_is_false : ((ps qs : List Stage) (a x : List Cell) → AreAccepted (ps ++ qs) → Ascends above a → AreUnmarkedRead (ps ++ qs) a → AreUnmarkedRead (ps ++ qs) x → scan (ps ++ qs) (minor_compaction ps a) x ≡ scan (ps ++ qs) a x) → ⊥
@@ -80,7 +80,7 @@ minor_with_other_markers_is_false law = let p = a_marker_in_the_middle_of_a_mino
 -- partial: the others have no marker in a column whose combiner refuses deletes
 a_marker_in_a_column_that_refuses_deletes : (scan (counting false) (partial_compaction (counting false) puts) marker_between ≡ put_x 3 (codes "||") ∷ [])
     × (scan (counting false) puts marker_between ≡ put_x 3 (codes "|") ∷ [])
-unfolding stages stage sum_of sorted put above cell_cmp key_cmp column_cmp time_cmp combined kept leads rewritten joined_value put_beside same_column reduced join_from mark is_unmarked marker_beside live is_live hides partial_stages
+unfolding stages stage sum_of sorted put above cell_cmp key_cmp column_cmp time_cmp combine_columns filter_beside leads with_joined_value joined_value put_beside same_column reduce_values join_from mark is_unmarked marker_beside live is_live hides partial_stages
 a_marker_in_a_column_that_refuses_deletes = (refl, refl)
 
 partial_without_it_is_false : ((ps qs : List Stage) (a x : List Cell) → AreAccepted (ps ++ qs) → (list_any is_full ps ≡ true → AllByRecursion IsNotNewest ps) → Ascends above a → AreUnmarkedRead (ps ++ qs) a → AreUnmarkedRead (ps ++ qs) x → scan (ps ++ qs) (partial_compaction ps a) x ≡ scan (ps ++ qs) a x) → ⊥
@@ -90,7 +90,7 @@ partial_without_it_is_false law = let p = a_marker_in_a_column_that_refuses_dele
 a_partial_compaction_that_runs_all_stages : (scan (counting true) (stages (counting true) (mark puts)) marker_between ≡ put_x 3 (codes "||") ∷ [])
     × (scan (counting true) (partial_compaction (counting true) puts) marker_between ≡ put_x 3 (codes "|") ∷ [])
     × (scan (counting true) puts marker_between ≡ put_x 3 (codes "|") ∷ [])
-unfolding stages stage sum_of sorted put above cell_cmp key_cmp column_cmp time_cmp combined kept leads rewritten joined_value put_beside same_column reduced join_from mark is_unmarked marker_beside live is_live hides partial_stages
+unfolding stages stage sum_of sorted put above cell_cmp key_cmp column_cmp time_cmp combine_columns filter_beside leads with_joined_value joined_value put_beside same_column reduce_values join_from mark is_unmarked marker_beside live is_live hides partial_stages
 a_partial_compaction_that_runs_all_stages = (refl, refl, refl)
 
 -- there the marker stands in a column that may have one
@@ -109,7 +109,7 @@ they_are_accepted = (((λ c e h. refl), tally_lawful), ((tt, tt), (one, (tt, tt)
 
 versions_beside_a_combiner_that_is_left_out : (scan counting_and_newest (partial_compaction counting_and_newest puts) [] ≡ put_x 3 (codes "|") ∷ [])
     × (scan counting_and_newest puts [] ≡ put_x 3 (codes "||") ∷ [])
-unfolding stages stage sum_of sorted put above cell_cmp key_cmp column_cmp time_cmp combined kept leads rewritten joined_value put_beside same_column reduced join_from mark is_unmarked marker_beside live is_live hides partial_stages versions is_recent
+unfolding stages stage sum_of sorted put above cell_cmp key_cmp column_cmp time_cmp combine_columns filter_beside leads with_joined_value joined_value put_beside same_column reduce_values join_from mark is_unmarked marker_beside live is_live hides partial_stages versions is_recent
 versions_beside_a_combiner_that_is_left_out = (refl, refl)
 
 partial_with_versions_is_false : ((ps qs : List Stage) (a x : List Cell) → AreAccepted (ps ++ qs) → Ascends above a → AreUnmarkedRead (ps ++ qs) a → AreUnmarkedRead (ps ++ qs) x → AreDeletable ps x → scan (ps ++ qs) (partial_compaction ps a) x ≡ scan (ps ++ qs) a x) → ⊥
@@ -138,7 +138,7 @@ newer_without_it_is_false law = let p = an_older_entry_tells_equal_answers_apart
 -- the part is in order: else `mark` takes the newest entry for one behind a marker
 a_part_out_of_order : (live (sum_of (mark (marker_x 2 ∷ put_x 3 (codes "|") ∷ [])) []) ≡ [])
     × (live (sum_of (marker_x 2 ∷ put_x 3 (codes "|") ∷ []) []) ≡ put_x 3 (codes "|") ∷ [])
-unfolding sum_of sorted put above cell_cmp key_cmp column_cmp time_cmp kept same_column mark is_unmarked marker_beside live is_live hides
+unfolding sum_of sorted put above cell_cmp key_cmp column_cmp time_cmp filter_beside same_column mark is_unmarked marker_beside live is_live hides
 a_part_out_of_order = (refl, refl)
 
 newest_markers_out_of_order_is_false : ((a x : List Cell) → live (sum_of (mark a) x) ≡ live (sum_of a x)) → ⊥
@@ -150,7 +150,7 @@ has_a e = bytes_eq e.value (codes "a")
 
 a_restriction_by_values : (filter has_a (stages (newest 1 ∷ []) (live (put_x 2 (codes "b") ∷ put_x 1 (codes "a") ∷ []))) ≡ [])
     × (stages (newest 1 ∷ []) (live (filter has_a (put_x 2 (codes "b") ∷ put_x 1 (codes "a") ∷ []))) ≡ put_x 1 (codes "a") ∷ [])
-unfolding stages stage kept put_beside same_column column_cmp versions is_recent marker_beside live is_live hides
+unfolding stages stage filter_beside put_beside same_column column_cmp versions is_recent marker_beside live is_live hides
 a_restriction_by_values = (refl, refl)
 
 two_versions_in_order : Ascends above (put_x 2 (codes "b") ∷ put_x 1 (codes "a") ∷ [])
@@ -172,7 +172,7 @@ counting_strictly = combine (λ e. true) strict true ∷ []
 
 a_value_that_is_not_read : (scan counting_strictly (minor_compaction counting_strictly (put_x 1 (codes "a") ∷ [])) (put_x 2 (codes "|") ∷ []) ≡ put_x 2 (codes "|") ∷ [])
     × (scan counting_strictly (put_x 1 (codes "a") ∷ []) (put_x 2 (codes "|") ∷ []) ≡ put_x 2 [] ∷ [])
-unfolding stages stage sum_of sorted put above cell_cmp key_cmp column_cmp time_cmp combined kept leads rewritten joined_value put_beside same_column reduced join_from mark is_unmarked marker_beside live is_live hides
+unfolding stages stage sum_of sorted put above cell_cmp key_cmp column_cmp time_cmp combine_columns filter_beside leads with_joined_value joined_value put_beside same_column reduce_values join_from mark is_unmarked marker_beside live is_live hides
 a_value_that_is_not_read = (refl, refl)
 
 -- the reduction is a lawful one

@@ -3,7 +3,7 @@ use Rattle.std.proofs.Common.{◌≡◌, pos, ℕ, ◌+◌, ◌≤◌, true, Lis
 use Rattle.tablet_model.specs.Ages.{AreApart, IsApart, HasPlainMarkers}
 use Rattle.tablet_model.specs.Cell.{Cell}
 use Rattle.tablet_model.specs.Compactions.{minor_compaction}
-use Rattle.tablet_model.specs.History.{RowChange, entries_of, history_entries, numbered}
+use Rattle.tablet_model.specs.History.{RowChange, entries_of, history_entries, entries_from}
 use Rattle.tablet_model.specs.Ingest.{IsHistory, ingest}
 use Rattle.tablet_model.specs.Markers.{live, mark}
 use Rattle.tablet_model.specs.Order.{above}
@@ -92,11 +92,11 @@ all_applied s v = ap (sorted above) (sym (append_assoc (cells_of s.files) (froze
 
 history_all : (c : Rules) (h : List RowChange) → IsHistory c h → AreStorable c (history_entries h)
 unfolding history_entries
-history_all c h k = all_sorted above above_exact (IsStorable c) (numbered 0 h) (storable_numbered c 0 h k)
+history_all c h k = all_sorted above above_exact (IsStorable c) (entries_from 0 h) (storable_numbered c 0 h k)
 
 history_times : (c : Rules) (h : List RowChange) → IsHistory c h → AreWithin c.plain 0 (length h) (history_entries h)
 unfolding history_entries
-history_times c h k = within_weaker c.plain 0 0 (0 + length h) (length h) (sorted above (numbered 0 h)) (le_refl 0) (zero_first (length h)) (all_sorted above above_exact (IsWithin c.plain 0 (0 + length h)) (numbered 0 h) (within_numbered c 0 h k))
+history_times c h k = within_weaker c.plain 0 0 (0 + length h) (length h) (sorted above (entries_from 0 h)) (le_refl 0) (zero_first (length h)) (all_sorted above above_exact (IsWithin c.plain 0 (0 + length h)) (entries_from 0 h) (within_numbered c 0 h k))
   where
     zero_first : (n : ℕ) → 0 + n ≤ n
     zero_first n = omega arith

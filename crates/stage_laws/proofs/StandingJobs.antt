@@ -11,7 +11,7 @@ use Rattle.tablet_model.specs.Sorted.{Ascends, sorted}
 use Rattle.tablet_model.specs.Stages.{stages}
 use Rattle.tablet_model.specs.Stands.{AreAllNewer, AreBelow, AreRising, AreWithin, StandsInJobs, StandsInParts}
 use Rattle.tablet_model.specs.Steps.{find_job, made_by, without_job}
-use Rattle.tablet_model.specs.Store.{File, RunningJob, Store, all_of, cells_of, frozen_of, has_id, input_of, named, parts_of, unnamed}
+use Rattle.tablet_model.specs.Store.{File, RunningJob, Store, all_of, cells_of, frozen_of, has_id, input_of, files_with, parts_of, files_without}
 use Rattle.tablet_model.specs.Sum.{sum_of}
 use Rattle.tablet_model.proofs.Merges.{all_append, all_sorted}
 use Rattle.tablet_model.proofs.Orders.{above_exact}
@@ -26,10 +26,10 @@ use Rattle.stage_laws.proofs.StoreTimes.{IsWithin, all_newer, newer_columns, wit
 
 Ascends-input : (ids : List ℕ) (files : List File) → Ascends above (input_of ids files)
 unfolding input_of
-Ascends-input ids files = Ascends-sorted above above_exact (cells_of (named ids files))
+Ascends-input ids files = Ascends-sorted above above_exact (cells_of (files_with ids files))
 
-rising_left : (id : ℕ) (ids : List ℕ) (files : List File) (cells : List Cell) → AreBelow id files → AreRising files → AreRising (unnamed ids files ++ record { id = id; cells = cells } ∷ [])
-unfolding unnamed
+rising_left : (id : ℕ) (ids : List ℕ) (files : List File) (cells : List Cell) → AreBelow id files → AreRising files → AreRising (files_without ids files ++ record { id = id; cells = cells } ∷ [])
+unfolding files_without
 rising_left id ids files cells b h = rising_more id (filter (λ f. not (has_id ids f.id)) files) cells (all_filter (λ f. f.id < id) (λ f. not (has_id ids f.id)) files b) (rising_filter (λ f. not (has_id ids f.id)) files h)
 
 -- all that is outside a full job's files
@@ -45,7 +45,7 @@ unfolding made_by input_of
 made_all_job c law s t h = go t.full
   where
     input : AreStorable c (input_of t.ids s.files)
-    input = all_sorted above above_exact (IsStorable c) (cells_of (named t.ids s.files)) (fewer (IsStorable c) t.ids s.files h)
+    input = all_sorted above above_exact (IsStorable c) (cells_of (files_with t.ids s.files)) (fewer (IsStorable c) t.ids s.files h)
 
     go : (b : Bool) → AreStorable c (cond b (full_compaction c.major (input_of t.ids s.files)) (partial_compaction c.major (input_of t.ids s.files)))
     go true = keeps_stages c c.major (keeps_first c law c.major law.major_first) (live (input_of t.ids s.files)) (keeps_live c (input_of t.ids s.files) input)
@@ -62,13 +62,13 @@ made_unseen c law s t x ia xa newer = go t.full refl
     go true e = whole_unseen c law a x (Ascends-input t.ids s.files) (all_read c a ia) (all_read c x xa) (all_plain c law a ia) (all_plain c law x xa) (newer_columns c.plain law.plain_columns x a (newer e))
     go false e = partial_unseen c law a x (Ascends-input t.ids s.files) (all_read c a ia) (all_read c x xa) (all_deletable c law x xa)
 
-pub stands_replaced : (c : Rules) (s : Store) (h : List RowChange) (t : RunningJob) → AreSound c → AreBelow s.next s.files → (t.full ≡ true → AreAllNewer c.plain (cells_of (unnamed t.ids s.files)) (cells_of (named t.ids s.files))) → StandsInParts c s h → StandsInParts c (without_job c s t) h
+pub stands_replaced : (c : Rules) (s : Store) (h : List RowChange) (t : RunningJob) → AreSound c → AreBelow s.next s.files → (t.full ≡ true → AreAllNewer c.plain (cells_of (files_without t.ids s.files)) (cells_of (files_with t.ids s.files))) → StandsInParts c s h → StandsInParts c (without_job c s t) h
 unfolding parts_of frozen_of all_of without_job input_of
 stands_replaced c s h t law below newer k =
     let p : Parts c s (length h) = parts c s h k in
     let files : List Cell = cells_of s.files in
-    let left : List Cell = cells_of (unnamed t.ids s.files) in
-    let taken : List Cell = cells_of (named t.ids s.files) in
+    let left : List Cell = cells_of (files_without t.ids s.files) in
+    let taken : List Cell = cells_of (files_with t.ids s.files) in
     let z : List Cell = frozen_of s in
     let f : File = record { id = s.next; cells = made_by c s t } in
     let rest : List Cell = left ++ (z ++ s.memory) in
@@ -79,7 +79,7 @@ stands_replaced c s h t law below newer k =
     record {
       count_is = k.count_is;
       history = k.history;
-      same = ap (λ l. stages c.base (live (sorted above (l ++ (z ++ s.memory))))) (cells_append (unnamed t.ids s.files) f)
+      same = ap (λ l. stages c.base (live (sorted above (l ++ (z ++ s.memory))))) (cells_append (files_without t.ids s.files) f)
           ∙ ap (λ l. stages c.base (live l)) (file_and_rest left f.cells (z ++ s.memory))
           ∙ made_unseen c law s t (sorted above rest) input_all rest_all
           (λ e. newer_rest c left z s.memory taken p.settled p.closed (length h) p.order p.frozen_times p.memory_times taken_times (newer e))
@@ -90,15 +90,15 @@ stands_replaced c s h t law below newer k =
         closed = p.closed;
         order = p.order;
         bound = p.bound;
-        in_files = cells_one_more (IsWithin c.plain 0 p.settled) (unnamed t.ids s.files) f (fewer_files (IsWithin c.plain 0 p.settled) t.ids s.files p.file_times) (made_keys (IsWithin c.plain 0 p.settled) (within_looks c.plain law.plain_columns 0 p.settled) c law s t taken_times);
+        in_files = cells_one_more (IsWithin c.plain 0 p.settled) (files_without t.ids s.files) f (fewer_files (IsWithin c.plain 0 p.settled) t.ids s.files p.file_times) (made_keys (IsWithin c.plain 0 p.settled) (within_looks c.plain law.plain_columns 0 p.settled) c law s t taken_times);
         in_frozen = p.frozen_times;
         in_memory = p.memory_times;
       };
-      entries = all_append (IsStorable c) (cells_of (unnamed t.ids s.files ++ f ∷ [])) (z ++ s.memory) (cells_one_more (IsStorable c) (unnamed t.ids s.files) f left_all (made_all_job c law s t p.files)) (all_append (IsStorable c) z s.memory p.frozen p.memory);
+      entries = all_append (IsStorable c) (cells_of (files_without t.ids s.files ++ f ∷ [])) (z ++ s.memory) (cells_one_more (IsStorable c) (files_without t.ids s.files) f left_all (made_all_job c law s t p.files)) (all_append (IsStorable c) z s.memory p.frozen p.memory);
       frozen_sorted = k.frozen_sorted;
       memory_sorted = k.memory_sorted;
       rising = rising_left s.next t.ids s.files f.cells below k.rising;
     }
 
 pub stands_finished : (c : Rules) (s : Store) (h : List RowChange) (j : ℕ) (t : RunningJob) → AreSound c → find_job j s.jobs ≡ Some t → StandsInParts c s h → StandsInJobs c s → StandsInParts c (without_job c s t) h
-stands_finished c s h j t law found k jobs = stands_replaced c s h t law jobs.below (found_job (λ t. t.full ≡ true → AreAllNewer c.plain (cells_of (unnamed t.ids s.files)) (cells_of (named t.ids s.files))) j s.jobs t found jobs.others_newer) k
+stands_finished c s h j t law found k jobs = stands_replaced c s h t law jobs.below (found_job (λ t. t.full ≡ true → AreAllNewer c.plain (cells_of (files_without t.ids s.files)) (cells_of (files_with t.ids s.files))) j s.jobs t found jobs.others_newer) k

@@ -15,8 +15,8 @@ use Rattle.tablet_model.specs.Rules.{AreSound, AreStorable, Rules, scan_stack}
 use Rattle.tablet_model.specs.Sorted.{Ascends, sorted}
 use Rattle.tablet_model.specs.Stages.{stages}
 use Rattle.tablet_model.specs.Stands.{AreAllNewer, AreApartJobs, AreBelow, AreRising, AreThere, AreWithin, HaveOwnNumbers, Stands, StandsInJobs, StandsInParts}
-use Rattle.tablet_model.specs.Steps.{Event, StepAnswer, apply, compact, compact_all, find_job, finish, first_missing, first_taken, flush, freeze, frozen_there, ids_of, is_empty, job_exists, logged, no_files, nothing_in_memory, refuse, refuse_start, refused, step, stepped, takes_all, with_job, without_job}
-use Rattle.tablet_model.specs.Store.{RunningJob, Store, all_of, cells_of, empty_store, frozen_of, named, parts_of, unnamed}
+use Rattle.tablet_model.specs.Steps.{Event, StepAnswer, apply, compact, compact_all, find_job, finish, first_missing, first_taken, flush, freeze, frozen_there, ids_of, is_empty, job_exists, log_after, no_files, nothing_in_memory, refuse, refuse_start, refused, step, store_after, takes_all, with_job, without_job}
+use Rattle.tablet_model.specs.Store.{RunningJob, Store, all_of, cells_of, empty_store, frozen_of, files_with, parts_of, files_without}
 use Rattle.tablet_model.specs.Sum.{sum_of}
 use Rattle.tablet_model.proofs.Histories.{history_ascends}
 use Rattle.tablet_model.proofs.Ingests.{none_cond, none_first, none_map, none_second}
@@ -95,11 +95,11 @@ jobs_same c s t f n g h = record {
   files_there = subst (λ fs. AllByRecursion (λ t. AreThere fs t.ids) t.jobs) f (subst (AllByRecursion (λ t. AreThere s.files t.ids)) g h.files_there);
   own_numbers = subst HaveOwnNumbers g h.own_numbers;
   files_apart = subst AreApartJobs g h.files_apart;
-  others_newer = subst (λ fs. AllByRecursion (λ t. t.full ≡ true → AreAllNewer c.plain (cells_of (unnamed t.ids fs)) (cells_of (named t.ids fs))) t.jobs) f (subst (AllByRecursion (λ t. t.full ≡ true → AreAllNewer c.plain (cells_of (unnamed t.ids s.files)) (cells_of (named t.ids s.files)))) g h.others_newer);
+  others_newer = subst (λ fs. AllByRecursion (λ t. t.full ≡ true → AreAllNewer c.plain (cells_of (files_without t.ids fs)) (cells_of (files_with t.ids fs))) t.jobs) f (subst (AllByRecursion (λ t. t.full ≡ true → AreAllNewer c.plain (cells_of (files_without t.ids s.files)) (cells_of (files_with t.ids s.files)))) g h.others_newer);
 }
 
-stands_step : (c : Rules) (s : Store) (h : List RowChange) (e : Event) → AreSound c → refuse c s e ≡ None → Stands c s h → Stands c (step c s e) (logged c s h e)
-unfolding refuse step logged
+stands_step : (c : Rules) (s : Store) (h : List RowChange) (e : Event) → AreSound c → refuse c s e ≡ None → Stands c s h → Stands c (step c s e) (log_after c s h e)
+unfolding refuse step log_after
 stands_step c s h (apply m) law ok k =
     let free : ingest c s.count m ≡ None = none_map refused (ingest c s.count m) ok in
     subst (Stands c (record s { count = s.count + 1; memory = sum_of s.memory (entries_of (pos (s.count + 1)) m) })) (sym (ap (λ o. cond (is_some o) h (h ++ m ∷ [])) free))
@@ -117,8 +117,8 @@ stands_step c s h (finish j) law ok k = go (find_job j s.jobs) refl
     go None e = k
     go (Some t) e = record { in_parts = stands_finished c s h j t law e k.in_parts k.in_jobs; in_jobs = jobs_finished c law s j t e k.in_jobs.below k.in_jobs }
 
-pub refused_log : (c : Rules) (s : Store) (h : List RowChange) (e : Event) (a : StepAnswer) → refuse c s e ≡ Some a → logged c s h e ≡ h
-unfolding refuse logged
+pub refused_log : (c : Rules) (s : Store) (h : List RowChange) (e : Event) (a : StepAnswer) → refuse c s e ≡ Some a → log_after c s h e ≡ h
+unfolding refuse log_after
 refused_log c s h (apply m) a r = go (ingest c s.count m) r
   where
     none_some : {X : Type 0} (x : X) → None ≡ Some x → ⊥
@@ -133,11 +133,11 @@ refused_log c s h (compact j ids) a r = refl
 refused_log c s h (compact_all j) a r = refl
 refused_log c s h (finish j) a r = refl
 
-pub steps_stand : (c : Rules) (s : Store) (h : List RowChange) (e : Event) → AreSound c → Stands c s h → Stands c (stepped c s e) (logged c s h e)
-unfolding stepped
+pub steps_stand : (c : Rules) (s : Store) (h : List RowChange) (e : Event) → AreSound c → Stands c s h → Stands c (store_after c s e) (log_after c s h e)
+unfolding store_after
 steps_stand c s h e law k = go (refuse c s e) refl
   where
-    go : (o : Option StepAnswer) → refuse c s e ≡ o → Stands c (cond (is_some o) s (step c s e)) (logged c s h e)
+    go : (o : Option StepAnswer) → refuse c s e ≡ o → Stands c (cond (is_some o) s (step c s e)) (log_after c s h e)
     go None r = stands_step c s h e law r k
     go (Some a) r = subst (Stands c s) (sym (refused_log c s h e a r)) k
 
@@ -165,8 +165,8 @@ stores_answer c s h range families law k = ap (λ l. within range (c.scan_rest l
     chosen : (list : List Cell) → Ascends above list → stages c.base (in_families families (live list)) ≡ in_families families (stages c.base (live list))
     chosen list up = sym (restrict_stages (is_in families) (families_columns families) c.base (made_all c.base law.accepted) (live list) (Ascends-live list up))
 
-pub steps_are_unseen : (c : Rules) (s : Store) (h : List RowChange) (e : Event) (range : Span) (families : Option (List (List ℕ))) → AreSound c → Stands c s h → logged c s h e ≡ h → scan_of (scan_stack c) range families (all_of (stepped c s e)) ≡ scan_of (scan_stack c) range families (all_of s)
+pub steps_are_unseen : (c : Rules) (s : Store) (h : List RowChange) (e : Event) (range : Span) (families : Option (List (List ℕ))) → AreSound c → Stands c s h → log_after c s h e ≡ h → scan_of (scan_stack c) range families (all_of (store_after c s e)) ≡ scan_of (scan_stack c) range families (all_of s)
 steps_are_unseen c s h e range families law k same =
-    stores_answer c (stepped c s e) (logged c s h e) range families law (steps_stand c s h e law k)
+    stores_answer c (store_after c s e) (log_after c s h e) range families law (steps_stand c s h e law k)
     ∙ ap (answer (scan_stack c) range families) same
     ∙ sym (stores_answer c s h range families law k)

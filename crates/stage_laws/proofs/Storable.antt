@@ -4,12 +4,12 @@ use Rattle.std.specs.List.{AllByRecursion, filter, list_any}
 use Rattle.tablet_model.specs.Accepted.{AreAccepted, AreDeletable, IsDeletable, IsOfColumns}
 use Rattle.tablet_model.specs.Ages.{HasPlainMarkers}
 use Rattle.tablet_model.specs.Cell.{Cell}
-use Rattle.tablet_model.specs.Combines.{combined, joined_value, leads, rewritten}
-use Rattle.tablet_model.specs.Filters.{filtered}
-use Rattle.tablet_model.specs.Kept.{kept}
+use Rattle.tablet_model.specs.Combines.{combine_columns, joined_value, leads, with_joined_value}
+use Rattle.tablet_model.specs.Filters.{filter_puts}
+use Rattle.tablet_model.specs.Kept.{filter_beside}
 use Rattle.tablet_model.specs.Markers.{is_live, is_unmarked, live, mark, put_beside}
 use Rattle.tablet_model.specs.Reading.{AreUnmarkedRead, IsReadBy}
-use Rattle.tablet_model.specs.Reductions.{IsLawful, Reduction, reduced}
+use Rattle.tablet_model.specs.Reductions.{IsLawful, Reduction, reduce_values}
 use Rattle.tablet_model.specs.Rules.{AreSound, AreStorable, IsApartFrom, IsShort, IsStorable, Rules, StandsFirst}
 use Rattle.tablet_model.specs.Stages.{Stage, by_cell, by_column, combine, intersect, newest, rows, stage, stages}
 use Rattle.tablet_model.specs.Versions.{is_recent, versions}
@@ -21,12 +21,12 @@ use Rattle.tablet_model.proofs.Sums.{all_filter, all_weaker}
 use Rattle.stage_laws.proofs.Kept.{absurd_bool, all_and, filter_read, listed_key, made_at, put_column, put_live, read_at, read_split, reduced_some, stands_from}
 use Rattle.stage_laws.proofs.Whole.{full}
 
-reduced_short : (r : Reduction) → IsLawful r → ((v : List ℤ) → r.is_value v ≡ true → length (r.text v) ≤ 65536) → (list : List Cell) (test : Cell → Bool) → list_any test list ≡ true → AllRead r (filter test list) → length (reduced r (values (filter test list))) ≤ 65536
-unfolding reduced
+reduced_short : (r : Reduction) → IsLawful r → ((v : List ℤ) → r.is_value v ≡ true → length (r.text v) ≤ 65536) → (list : List Cell) (test : Cell → Bool) → list_any test list ≡ true → AllRead r (filter test list) → length (reduce_values r (values (filter test list))) ≤ 65536
+unfolding reduce_values
 reduced_short r law short [] test h all = absurd (grind arith)
 reduced_short r law short (e ∷ es) test h all = go (test e) h all (reduced_short r law short es test)
   where
-    go : (b : Bool) → (b || list_any test es) ≡ true → AllRead r (cond b (e ∷ filter test es) (filter test es)) → (list_any test es ≡ true → AllRead r (filter test es) → length (reduced r (values (filter test es))) ≤ 65536) → length (reduced r (values (cond b (e ∷ filter test es) (filter test es)))) ≤ 65536
+    go : (b : Bool) → (b || list_any test es) ≡ true → AllRead r (cond b (e ∷ filter test es) (filter test es)) → (list_any test es ≡ true → AllRead r (filter test es) → length (reduce_values r (values (filter test es))) ≤ 65536) → length (reduce_values r (values (cond b (e ∷ filter test es) (filter test es)))) ≤ 65536
     go true k a ih = short _ (join_from_value r law (r.value e.value) (filter test es) (law.value_of e.value a.0) a.1)
     go false k a ih = ih k a
 
@@ -52,12 +52,12 @@ record IsCombiner (c : Rules) (listed : Cell → Bool) (r : Reduction) (full : B
 abbrev IsPutIn : List Cell → Cell → Type 0
 IsPutIn list e = e.key.deleted ≡ false → list_any (put_beside e) list ≡ true
 
-storable_rewritten : (c : Rules) (listed : Cell → Bool) (r : Reduction) (full : Bool) → IsCombiner c listed r full → (list : List Cell) → AreStorable c list → (e : Cell) → IsStorable c e × IsPutIn list e → IsStorable c (rewritten listed r list e)
-unfolding rewritten joined_value
+storable_rewritten : (c : Rules) (listed : Cell → Bool) (r : Reduction) (full : Bool) → IsCombiner c listed r full → (list : List Cell) → AreStorable c list → (e : Cell) → IsStorable c e × IsPutIn list e → IsStorable c (with_joined_value listed r list e)
+unfolding with_joined_value joined_value
 storable_rewritten c listed r full k list all e h = go e.key.deleted refl (listed e) refl
   where
     made : Cell
-    made = record { key = e.key; value = reduced r (values (filter (put_beside e) list)) }
+    made = record { key = e.key; value = reduce_values r (values (filter (put_beside e) list)) }
 
     reading : listed e ≡ true → AllByRecursion (λ m. put_beside e m ≡ true → r.reads m.value ≡ true) list
     reading l = all_weaker (IsStorable c) (λ m. put_beside e m ≡ true → r.reads m.value ≡ true) (λ m a b. k.reads m (a.reads (put_live e m b)) (k.columns e m (put_column e m b) ∙ l)) list all
@@ -81,9 +81,9 @@ abbrev pub IsKeeping : Rules → Stage → Type 0
 IsKeeping c s = (list : List Cell) → AreStorable c list → AreStorable c (stage s list)
 
 combiner_keeps : (c : Rules) (listed : Cell → Bool) (r : Reduction) (full : Bool) → IsCombiner c listed r full → IsKeeping c (combine listed r full)
-unfolding stage combined
+unfolding stage combine_columns
 combiner_keeps c listed r full k list h =
-    all_map (λ e. IsStorable c e × IsPutIn list e) (IsStorable c) (rewritten listed r list) (storable_rewritten c listed r full k list h) (kept (leads listed) [] list)
+    all_map (λ e. IsStorable c e × IsPutIn list e) (IsStorable c) (with_joined_value listed r list) (storable_rewritten c listed r full k list h) (filter_beside (leads listed) [] list)
     (all_kept (λ e. IsStorable c e × IsPutIn list e) (leads listed) [] list (all_and (IsStorable c) (IsPutIn list) list h (stands_from [] list)))
 
 short_at : (us vs : List Stage) (s : Stage) → AllByRecursion IsShort (us ++ s ∷ vs) → IsShort s
@@ -95,7 +95,7 @@ apart_at [] vs ts s h = h.0
 apart_at (u ∷ us) vs ts s h = apart_at us vs ts s h.1
 
 keeps_at : (c : Rules) → AreSound c → (us vs : List Stage) (s : Stage) → us ++ s ∷ vs ≡ c.base → IsKeeping c s
-unfolding stage filtered versions
+unfolding stage filter_puts versions
 keeps_at c law us vs (by_column p) e list h = all_filter (IsStorable c) (λ e. e.key.deleted || p e) list h
 keeps_at c law us vs (by_cell p) e list h = all_filter (IsStorable c) (λ e. e.key.deleted || p e) list h
 keeps_at c law us vs (newest n) e list h = all_kept (IsStorable c) (is_recent n) [] list h

@@ -10,7 +10,7 @@ use Rattle.tablet_model.specs.Reading.{AreUnmarkedRead}
 use Rattle.tablet_model.specs.Rules.{AreSound, Rules}
 use Rattle.tablet_model.specs.Sorted.{Ascends, sorted}
 use Rattle.tablet_model.specs.Stages.{Stage, stages}
-use Rattle.tablet_model.specs.Store.{File, cells_of, has_id, input_of, named, unnamed}
+use Rattle.tablet_model.specs.Store.{File, cells_of, has_id, input_of, files_with, files_without}
 use Rattle.tablet_model.specs.Sum.{sum_of}
 use Rattle.tablet_model.proofs.Orders.{above_exact}
 use Rattle.tablet_model.proofs.Regroup.{sorted_partition, sum_one}
@@ -23,16 +23,16 @@ pub sum_behind : (xs ys v : List Cell) → sorted above (xs ++ sum_of ys v) ≡ 
 unfolding sum_of
 sum_behind xs ys v = sorted_right above above_exact xs (ys ++ v) ∙ ap (sorted above) (sym (append_assoc xs ys v)) ∙ sym (sorted_left above above_exact (xs ++ ys) v)
 
-split : (ids : List ℕ) (files : List File) → sorted above (cells_of (named ids files) ++ cells_of (unnamed ids files)) ≡ sorted above (cells_of files)
-unfolding cells_of named unnamed
+split : (ids : List ℕ) (files : List File) → sorted above (cells_of (files_with ids files) ++ cells_of (files_without ids files)) ≡ sorted above (cells_of files)
+unfolding cells_of files_with files_without
 split ids files = sorted_partition above above_exact (λ f. f.cells) (λ f. has_id ids f.id) files
 
 -- a job's files and the others are all files
-pub input_and_rest : (ids : List ℕ) (files : List File) (rest : List Cell) → sum_of (input_of ids files) (sorted above (cells_of (unnamed ids files) ++ rest)) ≡ sorted above (cells_of files ++ rest)
+pub input_and_rest : (ids : List ℕ) (files : List File) (rest : List Cell) → sum_of (input_of ids files) (sorted above (cells_of (files_without ids files) ++ rest)) ≡ sorted above (cells_of files ++ rest)
 unfolding sum_of input_of
 input_and_rest ids files rest =
-    let yes : List Cell = cells_of (named ids files) in
-    let no : List Cell = cells_of (unnamed ids files) in
+    let yes : List Cell = cells_of (files_with ids files) in
+    let no : List Cell = cells_of (files_without ids files) in
     sorted_left above above_exact yes (sorted above (no ++ rest))
     ∙ sorted_right above above_exact yes (no ++ rest)
     ∙ ap (sorted above) (sym (append_assoc yes no rest))

@@ -6,7 +6,7 @@ ghost use Rattle.tablet_model.specs.Sorted.{Ascends, from_first};
 ghost use Rattle.tablet_model.specs.Bounds.{AreEntries};
 ghost use Rattle.tablet_model.specs.Cuts.{Span, is_behind, within};
 ghost use Rattle.cell_key.specs.Views.{cell_of};
-ghost use Rattle.stages.specs.Passes.{kept_from, reached};
+ghost use Rattle.stages.specs.Passes.{kept_from, seek_range};
 
 use cell_key::{EntryRef, NoMemory};
 use std::alloc::Global;
@@ -54,6 +54,6 @@ pub trait Stage: Sized + Drop {
 
     /// What it makes of the entries that a seek reaches is, from the start on, what a range has of what it makes of all.
     ghost narrows: { (s : Self) (span : Span) (list : List Cell) → Ascends above list → AreEntries list
-        → from_first (λ e. is_behind span.start e.key) (made s (within (reached (wide s) span) list))
+        → from_first (λ e. is_behind span.start e.key) (made s (within (seek_range (wide s) span) list))
         ≡ within span (made s list) };
 }

@@ -6,16 +6,16 @@ use Rattle.std.proofs.lemmas.List.{map-append}
 use Rattle.tablet_model.specs.Cell.{Cell}
 use Rattle.tablet_model.specs.Compactions.{full_compaction, partial_compaction}
 use Rattle.tablet_model.specs.Stands.{AreAllNewer}
-use Rattle.tablet_model.specs.Steps.{StepAnswer, find_job, finish, finished, logged, made_by, no_such_job, refuse, step, step_answer, without_job}
-use Rattle.tablet_model.specs.Store.{File, RunningJob, Store, cells_of, has_id, input_of, named, unnamed}
+use Rattle.tablet_model.specs.Steps.{StepAnswer, find_job, finish, finished, log_after, made_by, no_such_job, refuse, step, step_answer, without_job}
+use Rattle.tablet_model.specs.Store.{File, RunningJob, Store, cells_of, has_id, input_of, files_with, files_without}
 use Rattle.tablet_model.specs.Sum.{sum_all}
 use Rattle.stage_laws.proofs.Jobs.{found_job}
 use Rattle.stage_laws.proofs.JobsStay.{all_true}
 use Rattle.iter_config.specs.RulesOf.{rules_of}
-use Rattle.compactor.specs.Compacted.{Compaction, compacted}
+use Rattle.compactor.specs.Compacted.{Compaction, entries_made}
 use Rattle.iter_stack.specs.Usages.{usage_cells}
 use Rattle.iter_stack.specs.declared.usage.Usage.TheVariants.{MajcFull, MajcPart}
-use Rattle.tablet_view.specs.Snapshot.{IsMajorOf, IsStanding, OthersAreNewer, replaced, store_of}
+use Rattle.tablet_view.specs.Snapshot.{IsMajorOf, IsStanding, OthersAreNewer, after_major, store_of}
 use Rattle.tablet_view.proofs.Inputs.{files_input}
 use Rattle.tablet_view.proofs.Orders.{extends_replaced}
 use Rattle.tablet_core.specs.Jobs.{major_of}
@@ -36,7 +36,7 @@ finish_unmade k j h = unmade (finish j) k None (sym (finish_reason k j true h))
 
 -- the core behind it
 unfoldable pub finished_core : CoreState → ℕ → RunningJob → List Cell → CoreState
-finished_core k j t cells = record k { view = replaced k.view t.ids k.next cells; next = k.next + 1; jobs = filter (λ u. not (eqb j u.job)) k.jobs }
+finished_core k j t cells = record k { view = after_major k.view t.ids k.next cells; next = k.next + 1; jobs = filter (λ u. not (eqb j u.job)) k.jobs }
 
 find_filtered : (j : ℕ) (jobs : List RunningJob) → find_job j (filter (λ u. eqb j u.job) jobs) ≡ find_job j jobs
 unfolding find_job
@@ -58,7 +58,7 @@ finished_is : (k : CoreState) (j : ℕ) (t : RunningJob) (cells : List Cell) →
 unfolding finished_core state_of store_of without_job
 finished_is k j t cells f m = λ i. record {
   count = length k.view.log;
-  files = unnamed t.ids k.view.files ++ record { id = k.next; cells = m i } ∷ [];
+  files = files_without t.ids k.view.files ++ record { id = k.next; cells = m i } ∷ [];
   next = k.next + 1;
   frozen = k.view.frozen;
   memory = k.view.memory;
@@ -74,14 +74,14 @@ unfolding step state_of store_of
 step_is k j t f = sym (ap (λ o. elim o as (λ _. Store) [ None ↦ state_of k | Some t ↦ without_job (rules_of k.view.config) (state_of k) t ]) f)
 
 pub finish_made : (k : CoreState) (j : ℕ) (t : RunningJob) (cells : List Cell) → find_job j k.jobs ≡ Some t → cells ≡ made_in k t → IsMade (finish j) k (finished_core k j t cells) (finished j k.next (length cells))
-unfolding finished_core logged
+unfolding finished_core log_after
 finish_made k j t cells f m = record {
   free = finish_reason k j true (ap is_some f);
   answer = answer_is k j t cells f m;
   store = finished_is k j t cells f m ∙ step_is k j t f;
   log = refl;
   extends = extends_replaced k.view t.ids k.next cells;
-  slow = next_version k.view.version;
+  version_rises_by_one_at_most = next_version k.view.version;
 }
 
 pub finish_stands : (k : CoreState) (j : ℕ) (t : RunningJob) (cells : List Cell) → find_job j k.jobs ≡ Some t → cells ≡ made_in k t → IsStanding k.view → IsStandingCore k → IsStandingCore (finished_core k j t cells)
@@ -94,7 +94,7 @@ finish_stands k j t cells f m v i = core_stands (finish j) k (finished_core k j 
 -- it is a partial compaction, or a full one, and then all other files are newer
 newer_of : (k : CoreState) (j : ℕ) (t : RunningJob) → IsStandingCore k → find_job j k.jobs ≡ Some t → t.full ≡ true → OthersAreNewer k.view t.ids
 unfolding state_of store_of
-newer_of k j t i f = found_job (λ t. t.full ≡ true → AreAllNewer (rules_of k.view.config).plain (cells_of (unnamed t.ids k.view.files)) (cells_of (named t.ids k.view.files))) j k.jobs t f i.jobs.others_newer
+newer_of k j t i f = found_job (λ t. t.full ≡ true → AreAllNewer (rules_of k.view.config).plain (cells_of (files_without t.ids k.view.files)) (cells_of (files_with t.ids k.view.files))) j k.jobs t f i.jobs.others_newer
 
 pub major_is : (k : CoreState) (j : ℕ) (t : RunningJob) (cells : List Cell) → find_job j k.jobs ≡ Some t → cells ≡ made_in k t → IsStandingCore k → IsMajorOf k.view t.ids cells
 unfolding made_by state_of store_of
@@ -119,7 +119,7 @@ none_found f None h = refl
 none_found f (Some x) h = absurd (let k : None ≡ Some (f x) = h in cc)
 
 -- what the job of a running job makes
-pub major_makes : (k : CoreState) (t : RunningJob) → compacted (major_of k.view t) ≡ made_in k t
+pub major_makes : (k : CoreState) (t : RunningJob) → entries_made (major_of k.view t) ≡ made_in k t
 unfolding major_of usage_cells made_by state_of store_of
 major_makes k t = go t.full
   where
@@ -127,34 +127,34 @@ major_makes k t = go t.full
     go true = refl
     go false = refl
 
-pub job_makes : (k : CoreState) (j : ℕ) (done : Compaction) → Some done ≡ option_map (major_of k.view) (find_job j k.jobs) → IfSome (find_job j k.jobs) (λ t. compacted done ≡ made_in k t)
+pub job_makes : (k : CoreState) (j : ℕ) (done : Compaction) → Some done ≡ option_map (major_of k.view) (find_job j k.jobs) → IfSome (find_job j k.jobs) (λ t. entries_made done ≡ made_in k t)
 job_makes k j done = go (find_job j k.jobs)
   where
-    go : (o : Option RunningJob) → Some done ≡ option_map (major_of k.view) o → IfSome o (λ t. compacted done ≡ made_in k t)
+    go : (o : Option RunningJob) → Some done ≡ option_map (major_of k.view) o → IfSome o (λ t. entries_made done ≡ made_in k t)
     go None h = tt
-    go (Some t) h = (let e : Some done ≡ Some (major_of k.view t) = h in let d : done ≡ major_of k.view t = cc in ap compacted d ∙ major_makes k t)
+    go (Some t) h = (let e : Some done ≡ Some (major_of k.view t) = h in let d : done ≡ major_of k.view t = cc in ap entries_made d ∙ major_makes k t)
 
 -- its parts
-pub named_at : (ids : List ℕ) (files : List File) (i id : ℕ) (a : FileAt files i id) → named ids (take (i + 1) files) ≡ named ids (take i files) ++ cond (has_id ids id) (a.file ∷ []) []
-unfolding named
-named_at ids files i id a = ap (named ids) a.back ∙ last (take i files) ∙ ap (λ n. named ids (take i files) ++ cond (has_id ids n) (a.file ∷ []) []) a.number
+pub named_at : (ids : List ℕ) (files : List File) (i id : ℕ) (a : FileAt files i id) → files_with ids (take (i + 1) files) ≡ files_with ids (take i files) ++ cond (has_id ids id) (a.file ∷ []) []
+unfolding files_with
+named_at ids files i id a = ap (files_with ids) a.back ∙ last (take i files) ∙ ap (λ n. files_with ids (take i files) ++ cond (has_id ids n) (a.file ∷ []) []) a.number
   where
-    last : (xs : List File) → named ids (xs ++ a.file ∷ []) ≡ named ids xs ++ cond (has_id ids a.file.id) (a.file ∷ []) []
+    last : (xs : List File) → files_with ids (xs ++ a.file ∷ []) ≡ files_with ids xs ++ cond (has_id ids a.file.id) (a.file ∷ []) []
     last [] = refl
     last (x ∷ xs) = go (has_id ids x.id) (last xs)
       where
-        go : (b : Bool) → named ids (xs ++ a.file ∷ []) ≡ named ids xs ++ cond (has_id ids a.file.id) (a.file ∷ []) [] → cond b (x ∷ named ids (xs ++ a.file ∷ [])) (named ids (xs ++ a.file ∷ [])) ≡ cond b (x ∷ named ids xs) (named ids xs) ++ cond (has_id ids a.file.id) (a.file ∷ []) []
+        go : (b : Bool) → files_with ids (xs ++ a.file ∷ []) ≡ files_with ids xs ++ cond (has_id ids a.file.id) (a.file ∷ []) [] → cond b (x ∷ files_with ids (xs ++ a.file ∷ [])) (files_with ids (xs ++ a.file ∷ [])) ≡ cond b (x ∷ files_with ids xs) (files_with ids xs) ++ cond (has_id ids a.file.id) (a.file ∷ []) []
         go true h = ap (λ l. x ∷ l) h
         go false h = h
 
-pub parts_sum : (ids : List ℕ) (files : List File) (lists : List (List Cell)) → lists ≡ map (λ f. f.cells) (named ids files) → sum_all lists ≡ input_of ids files
+pub parts_sum : (ids : List ℕ) (files : List File) (lists : List (List Cell)) → lists ≡ map (λ f. f.cells) (files_with ids files) → sum_all lists ≡ input_of ids files
 parts_sum ids files lists h = ap sum_all h ∙ files_input ids files
 
-pub parts_at : (ids : List ℕ) (files : List File) (i id : ℕ) (a : FileAt files i id) (b : Bool) (lists : List (List Cell)) → has_id ids id ≡ b → lists ≡ map (λ f. f.cells) (named ids (take i files)) → lists ++ cond b (a.file.cells ∷ []) [] ≡ map (λ f. f.cells) (named ids (take (i + 1) files))
+pub parts_at : (ids : List ℕ) (files : List File) (i id : ℕ) (a : FileAt files i id) (b : Bool) (lists : List (List Cell)) → has_id ids id ≡ b → lists ≡ map (λ f. f.cells) (files_with ids (take i files)) → lists ++ cond b (a.file.cells ∷ []) [] ≡ map (λ f. f.cells) (files_with ids (take (i + 1) files))
 parts_at ids files i id a b lists h l =
     (λ j. l j ++ cond b (a.file.cells ∷ []) [])
-    ∙ sym (map-append (λ f. f.cells) (named ids (take i files)) (cond b (a.file ∷ []) []) ∙ ap (λ l. map (λ f. f.cells) (named ids (take i files)) ++ l) (one b))
-    ∙ ap (map (λ f. f.cells)) (ap (λ b. named ids (take i files) ++ cond b (a.file ∷ []) []) (sym h) ∙ sym (named_at ids files i id a))
+    ∙ sym (map-append (λ f. f.cells) (files_with ids (take i files)) (cond b (a.file ∷ []) []) ∙ ap (λ l. map (λ f. f.cells) (files_with ids (take i files)) ++ l) (one b))
+    ∙ ap (map (λ f. f.cells)) (ap (λ b. files_with ids (take i files) ++ cond b (a.file ∷ []) []) (sym h) ∙ sym (named_at ids files i id a))
   where
     one : (b : Bool) → map (λ f. f.cells) (cond b (a.file ∷ []) []) ≡ cond b (a.file.cells ∷ []) []
     one true = refl

@@ -4,16 +4,16 @@ use Rattle.tablet_model.specs.Cell.{Cell}
 use Rattle.tablet_model.specs.Compactions.{minor_compaction}
 use Rattle.tablet_model.specs.Rules.{AreStorable}
 use Rattle.tablet_model.specs.Stands.{AreBelow}
-use Rattle.tablet_model.specs.Steps.{flush, flushed as wrote, logged, nothing_frozen, refuse, step, step_answer, too_many_files}
+use Rattle.tablet_model.specs.Steps.{flush, flushed as wrote, log_after, nothing_frozen, refuse, step, step_answer, too_many_files}
 use Rattle.tablet_model.specs.Store.{frozen_of}
 use Rattle.tablet_model.specs.Sum.{sum_all}
 use Rattle.tablet_model.proofs.Ingests.{none_cond}
 use Rattle.iter_config.specs.RulesOf.{rules_of}
 use Rattle.iter_config.specs.declared.iter_spec.IterSpec.{IterSpec}
-use Rattle.compactor.specs.Compacted.{Compaction, compacted}
+use Rattle.compactor.specs.Compacted.{Compaction, entries_made}
 use Rattle.iter_stack.specs.Usages.{usage_cells}
 use Rattle.iter_stack.specs.declared.usage.Usage.TheVariants.{Minc}
-use Rattle.tablet_view.specs.Snapshot.{IsStanding, Snapshot, flushed, store_of}
+use Rattle.tablet_view.specs.Snapshot.{IsStanding, Snapshot, after_flush, store_of}
 use Rattle.tablet_view.proofs.Inputs.{frozen_input, frozen_storable}
 use Rattle.tablet_view.proofs.Orders.{extends_flushed}
 use Rattle.tablet_core.specs.Jobs.{flush_of}
@@ -40,17 +40,17 @@ flush_frozen k h = yes (is_some k.view.frozen) (none_cond (not (is_some k.view.f
 
 -- the core behind it
 unfoldable pub flushed_core : CoreState → List Cell → CoreState
-flushed_core k cells = record k { view = flushed k.view k.next cells; next = k.next + 1 }
+flushed_core k cells = record k { view = after_flush k.view k.next cells; next = k.next + 1 }
 
 pub flush_made : (k : CoreState) (cells : List Cell) → reason flush k ≡ None → cells ≡ minor_compaction (rules_of k.view.config).minor (unwrap_or k.view.frozen []) → IsMade flush k (flushed_core k cells) (wrote k.next (length cells))
-unfolding flushed_core state_of store_of step step_answer logged frozen_of
+unfolding flushed_core state_of store_of step step_answer log_after frozen_of
 flush_made k cells h m = record {
   free = h;
   answer = ap (λ l. wrote k.next (length l)) m;
   store = ap (λ l. record { count = length k.view.log; files = k.view.files ++ record { id = k.next; cells = l } ∷ []; next = k.next + 1; frozen = None; memory = k.view.memory; jobs = k.jobs }) m;
   log = refl;
   extends = extends_flushed k.view k.next cells;
-  slow = next_version k.view.version;
+  version_rises_by_one_at_most = next_version k.view.version;
 }
 
 pub flush_stands : (k : CoreState) (cells : List Cell) → reason flush k ≡ None → cells ≡ minor_compaction (rules_of k.view.config).minor (unwrap_or k.view.frozen []) → IsStanding k.view → IsStandingCore k → IsStandingCore (flushed_core k cells)
@@ -73,7 +73,7 @@ unfolding state_of store_of
 files_below k i = i.jobs.below
 
 -- what the job of a flush makes
-pub flush_makes : (v : Snapshot) (z : List Cell) → compacted (flush_of v z) ≡ minor_compaction (rules_of v.config).minor z
+pub flush_makes : (v : Snapshot) (z : List Cell) → entries_made (flush_of v z) ≡ minor_compaction (rules_of v.config).minor z
 unfolding flush_of usage_cells
 flush_makes v z = refl
 
@@ -87,6 +87,6 @@ unfolding flush_of
 flush_is v config z list job h e c l j =
     ap Some (j ∙ (λ i. record { config = c i; usage = Minc; input = (l ∙ frozen_input v z e h ∙ ap (λ o. unwrap_or o []) (sym e)) i })) ∙ ap (option_map (λ x. record { config = v.config; usage = Minc; input = x })) e
 
-pub job_flushes : (v : Snapshot) (done : Compaction) (o : Option (List Cell)) → Some done ≡ option_map (flush_of v) o → IfSome o (λ z. compacted done ≡ minor_compaction (rules_of v.config).minor z)
+pub job_flushes : (v : Snapshot) (done : Compaction) (o : Option (List Cell)) → Some done ≡ option_map (flush_of v) o → IfSome o (λ z. entries_made done ≡ minor_compaction (rules_of v.config).minor z)
 job_flushes v done None h = tt
-job_flushes v done (Some z) h = (let e : Some done ≡ Some (flush_of v z) = h in let d : done ≡ flush_of v z = cc in ap compacted d ∙ flush_makes v z)
+job_flushes v done (Some z) h = (let e : Some done ≡ Some (flush_of v z) = h in let d : done ≡ flush_of v z = cc in ap entries_made d ∙ flush_makes v z)

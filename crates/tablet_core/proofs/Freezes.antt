@@ -1,9 +1,9 @@
 -- The memory is frozen.
 use Rattle.std.proofs.Common.{◌≡◌, ℕ, ◌+◌, ◌≤◌, Bool, false, cond, List, length, Option, Some, None, is_some, option_map, refl, sym, ap, ◌∙◌, arith}
 use Rattle.tablet_model.specs.Cell.{Cell}
-use Rattle.tablet_model.specs.Steps.{froze, freeze, frozen_there, is_empty, logged, nothing_in_memory, refuse, step, step_answer}
+use Rattle.tablet_model.specs.Steps.{froze, freeze, frozen_there, is_empty, log_after, nothing_in_memory, refuse, step, step_answer}
 use Rattle.tablet_model.proofs.Ingests.{none_cond}
-use Rattle.tablet_view.specs.Snapshot.{IsStanding, frozen, store_of}
+use Rattle.tablet_view.specs.Snapshot.{IsStanding, after_freeze, store_of}
 use Rattle.tablet_view.proofs.Orders.{extends_frozen}
 use Rattle.tablet_core.specs.State.{CoreState, IsStandingCore, state_of}
 use Rattle.tablet_core.proofs.Moves.{IsMade, core_stands, next_version, reason}
@@ -29,12 +29,12 @@ freeze_free k h = go k.view.frozen (none_cond (is_some k.view.frozen) frozen_the
     go None k = refl
     go (Some l) k = absurd (grind arith)
 
-pub freeze_made : (k : CoreState) → reason freeze k ≡ None → IsMade freeze k (record k { view = frozen k.view }) (froze (length k.view.memory))
-unfolding state_of store_of step step_answer logged
-freeze_made k h = record { free = h; answer = refl; store = refl; log = refl; extends = extends_frozen k.view; slow = next_version k.view.version }
+pub freeze_made : (k : CoreState) → reason freeze k ≡ None → IsMade freeze k (record k { view = after_freeze k.view }) (froze (length k.view.memory))
+unfolding state_of store_of step step_answer log_after
+freeze_made k h = record { free = h; answer = refl; store = refl; log = refl; extends = extends_frozen k.view; version_rises_by_one_at_most = next_version k.view.version }
 
-pub freeze_stands : (k : CoreState) → reason freeze k ≡ None → IsStanding k.view → IsStandingCore k → IsStandingCore (record k { view = frozen k.view })
-freeze_stands k h v i = core_stands freeze k (record k { view = frozen k.view }) (froze (length k.view.memory)) v i (freeze_made k h) (more k.next (k.view.version + 1))
+pub freeze_stands : (k : CoreState) → reason freeze k ≡ None → IsStanding k.view → IsStandingCore k → IsStandingCore (record k { view = after_freeze k.view })
+freeze_stands k h v i = core_stands freeze k (record k { view = after_freeze k.view }) (froze (length k.view.memory)) v i (freeze_made k h) (more k.next (k.view.version + 1))
   where
     more : (a b : ℕ) → a ≤ b → a ≤ b + 1
     more a b h = omega arith

@@ -4,7 +4,7 @@ use Rattle.std.specs.List.{AllByRecursion}
 use Rattle.tablet_model.specs.Limits.{max_files}
 use Rattle.tablet_model.specs.Rules.{Rules}
 use Rattle.tablet_model.specs.Stands.{Stands, StandsInJobs}
-use Rattle.tablet_model.specs.Steps.{Event, StepAnswer, answered, logged, refuse, step, step_answer, stepped}
+use Rattle.tablet_model.specs.Steps.{Event, StepAnswer, answer_to_step, log_after, refuse, step, step_answer, store_after}
 use Rattle.stage_laws.proofs.Kept.{absurd_bool}
 use Rattle.stage_laws.proofs.StandingSteps.{parts_same, refused_log, steps_stand}
 use Rattle.iter_config.specs.RulesOf.{rules_of}
@@ -28,7 +28,7 @@ abbrev pub reason : Event → CoreState → Option StepAnswer
 reason e k = refuse (rules_of k.view.config) (state_of k) e
 
 refused : (e : Event) (k : CoreState) (a : StepAnswer) → reason e k ≡ Some a → Answers e k k (Some a)
-unfolding answered stepped
+unfolding answer_to_step store_after
 refused e k a h = (
   sym (ap (λ o. unwrap_or o (step_answer (rules_of k.view.config) (state_of k) e)) h),
   record {
@@ -36,7 +36,7 @@ refused e k a h = (
     log = sym (refused_log (rules_of k.view.config) (state_of k) k.view.log e a h);
     config = refl;
     extends = extends_refl k.view;
-    slow = same_version k.view.version;
+    version_rises_by_one_at_most = same_version k.view.version;
     unchanged = λ _. refl;
   },
 )
@@ -51,12 +51,12 @@ pub record IsMade (e : Event) (k l : CoreState) (a : StepAnswer) : Type 0 where
   pub free : reason e k ≡ None
   pub answer : a ≡ step_answer (rules_of k.view.config) (state_of k) e
   pub store : state_of l ≡ step (rules_of k.view.config) (state_of k) e
-  pub log : l.view.log ≡ logged (rules_of k.view.config) (state_of k) k.view.log e
+  pub log : l.view.log ≡ log_after (rules_of k.view.config) (state_of k) k.view.log e
   pub extends : Extends l.view k.view
-  pub slow : l.view.version ≤ k.view.version + 1
+  pub version_rises_by_one_at_most : l.view.version ≤ k.view.version + 1
 
 pub made : (e : Event) (k l : CoreState) (a : StepAnswer) → IsMade e k l a → Answers e k l (Some a)
-unfolding answered stepped
+unfolding answer_to_step store_after
 made e k l a m = (
   m.answer ∙ sym (ap (λ o. unwrap_or o (step_answer (rules_of k.view.config) (state_of k) e)) m.free),
   record {
@@ -64,7 +64,7 @@ made e k l a m = (
     log = m.log;
     config = m.extends.config;
     extends = m.extends;
-    slow = m.slow;
+    version_rises_by_one_at_most = m.version_rises_by_one_at_most;
     unchanged = λ t. absurd (absurd_bool t (ap is_some m.free));
   },
 )
@@ -75,7 +75,7 @@ unfolding state_of store_of
 jobs_stand e k l v t s =
     let c : Rules = rules_of k.view.config in
     let both : Stands c (state_of k) k.view.log = record { in_parts = parts_same c (store_of k.view 0 []) (state_of k) k.view.log refl refl refl refl v.parts; in_jobs = t } in
-    let after : StandsInJobs c (stepped c (state_of k) e) = (steps_stand c (state_of k) k.view.log e (sound k.view.config v.config) both).in_jobs in
+    let after : StandsInJobs c (store_after c (state_of k) e) = (steps_stand c (state_of k) k.view.log e (sound k.view.config v.config) both).in_jobs in
     subst (λ d. StandsInJobs (rules_of d) (state_of l)) (sym s.config) (subst (StandsInJobs c) (sym s.store) after)
 
 -- so do the few files of the store

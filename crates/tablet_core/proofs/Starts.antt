@@ -3,7 +3,7 @@ use Rattle.std.proofs.Common.{◌≡◌, ℕ, Bool, true, false, cond, List, [],
 use Rattle.std.specs.List.{AllByRecursion, list_any}
 use Rattle.std.specs.Option.{option_or}
 use Rattle.std.proofs.lemmas.Bool.{eq-eqb}
-use Rattle.tablet_model.specs.Steps.{StepAnswer, answered, compact, compact_all, find_job, first_missing, first_taken, ids_of, is_empty, job_exists, logged, no_files, no_such_file, refuse, refuse_start, started, step, step_answer, stepped, takes_all, with_job}
+use Rattle.tablet_model.specs.Steps.{StepAnswer, answer_to_step, compact, compact_all, find_job, first_missing, first_taken, ids_of, is_empty, job_exists, log_after, no_files, no_such_file, refuse, refuse_start, started, step, step_answer, store_after, takes_all, with_job}
 use Rattle.tablet_model.specs.Store.{File, RunningJob, has_id}
 use Rattle.tablet_model.proofs.Sums.{all_weaker}
 use Rattle.stage_laws.proofs.FileLists.{takes_own}
@@ -27,14 +27,14 @@ abbrev pub started_core : CoreState → RunningJob → CoreState
 started_core k t = record k { jobs = k.jobs ++ t ∷ [] }
 
 pub start_made : (k : CoreState) (t : RunningJob) → reason (compact t.job t.ids) k ≡ None → t.full ≡ takes_all t.ids k.view.files → IsMade (compact t.job t.ids) k (started_core k t) (started t.job t.full)
-unfolding state_of store_of step step_answer logged with_job
+unfolding state_of store_of step step_answer log_after with_job
 start_made k t h e = record {
   free = h;
   answer = ap (started t.job) e;
   store = λ i. record { count = length k.view.log; files = k.view.files; next = k.next; frozen = k.view.frozen; memory = k.view.memory; jobs = k.jobs ++ record { job = t.job; full = e i; ids = t.ids } ∷ [] };
   log = refl;
   extends = extends_refl k.view;
-  slow = same_version k.view.version;
+  version_rises_by_one_at_most = same_version k.view.version;
 }
 
 pub start_stands : (k : CoreState) (t : RunningJob) → reason (compact t.job t.ids) k ≡ None → t.full ≡ takes_all t.ids k.view.files → IsStanding k.view → IsStandingCore k → IsStandingCore (started_core k t)
@@ -42,7 +42,7 @@ start_stands k t h e v i = core_stands (compact t.job t.ids) k (started_core k t
 
 -- all files are those of their own numbers
 pub all_answers : (k l : CoreState) (j : ℕ) (o : Option StepAnswer) → Answers (compact j (ids_of k.view.files)) k l o → Answers (compact_all j) k l o
-unfolding refuse state_of store_of answered stepped step step_answer logged
+unfolding refuse state_of store_of answer_to_step store_after step step_answer log_after
 all_answers k l j None a = a
 all_answers k l j (Some x) a = (
   a.0 ∙ ap (λ b. unwrap_or (refuse_start (state_of k) j (ids_of k.view.files)) (started j b)) (takes_own k.view.files),
@@ -51,7 +51,7 @@ all_answers k l j (Some x) a = (
     log = a.1.log;
     config = a.1.config;
     extends = a.1.extends;
-    slow = a.1.slow;
+    version_rises_by_one_at_most = a.1.version_rises_by_one_at_most;
     unchanged = a.1.unchanged;
   },
 )

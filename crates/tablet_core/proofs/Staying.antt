@@ -3,7 +3,7 @@ use Rattle.std.proofs.Common.{◌≡◌, ℕ, cond, List, Some, true, is_some, s
 use Rattle.tablet_model.specs.Cell.{Cell}
 use Rattle.tablet_model.specs.Compactions.{full_compaction, partial_compaction}
 use Rattle.tablet_model.specs.Rules.{Rules}
-use Rattle.tablet_model.specs.Steps.{Event, find_job, made_by, stepped}
+use Rattle.tablet_model.specs.Steps.{Event, find_job, made_by, store_after}
 use Rattle.tablet_model.specs.Store.{RunningJob, Store, input_of}
 use Rattle.stage_laws.proofs.JobsStay.{frozen_stays, inputs_stay}
 use Rattle.iter_config.specs.RulesOf.{rules_of}
@@ -18,7 +18,7 @@ pub jobs_stay : (e : Event) (k l : CoreState) (j : ℕ) (t : RunningJob) → IsS
 unfolding state_of store_of
 jobs_stay e k l j t i s f g =
     (λ n. made_by (rules_of (s.config n)) (s.store n) t)
-    ∙ made_same (rules_of k.view.config) (stepped (rules_of k.view.config) (state_of k) e) (state_of k) t (inputs_stay (rules_of k.view.config) (state_of k) e j t i.jobs f (ap (λ x. find_job j x.jobs) (sym s.store) ∙ g))
+    ∙ made_same (rules_of k.view.config) (store_after (rules_of k.view.config) (state_of k) e) (state_of k) t (inputs_stay (rules_of k.view.config) (state_of k) e j t i.jobs f (ap (λ x. find_job j x.jobs) (sym s.store) ∙ g))
 
 pub frozen_stays_so : (e : Event) (k l : CoreState) (frozen : List Cell) → IsStep e k l → k.view.frozen ≡ Some frozen → is_some l.view.frozen ≡ true → l.view.frozen ≡ Some frozen
 unfolding state_of store_of

@@ -5,7 +5,7 @@ use Rattle.tablet_model.specs.Compactions.{minor_compaction}
 use Rattle.tablet_model.specs.Store.{RunningJob}
 use Rattle.tablet_model.specs.Steps.{Event, find_job, made_by}
 use Rattle.iter_config.specs.RulesOf.{rules_of}
-use Rattle.compactor.specs.Compacted.{compacted}
+use Rattle.compactor.specs.Compacted.{entries_made}
 use Rattle.tablet_view.specs.Snapshot.{Snapshot}
 use Rattle.tablet_core.specs.Jobs.{flush_of, major_of}
 use Rattle.tablet_core.specs.State.{CoreState, IsStandingCore, IsStep, state_of}
@@ -24,8 +24,8 @@ FrozenPartsStay = (e : Event) (k l : CoreState) (frozen : List Cell) → IsStep 
 
 -- what the minor compaction of a frozen part makes is what its file has to be
 abbrev pub FlushesFit : Type 0
-FlushesFit = (v : Snapshot) (frozen : List Cell) → compacted (flush_of v frozen) ≡ minor_compaction (rules_of v.config).minor frozen
+FlushesFit = (v : Snapshot) (frozen : List Cell) → entries_made (flush_of v frozen) ≡ minor_compaction (rules_of v.config).minor frozen
 
 -- what the compaction of a running job makes is what the job's file has to be
 abbrev pub MajorsFit : Type 0
-MajorsFit = (k : CoreState) (t : RunningJob) → compacted (major_of k.view t) ≡ made_by (rules_of k.view.config) (state_of k) t
+MajorsFit = (k : CoreState) (t : RunningJob) → entries_made (major_of k.view t) ≡ made_by (rules_of k.view.config) (state_of k) t

@@ -3,7 +3,7 @@ use Rattle.std.specs.Prelude.{◌≡◌, ℕ, ◌+◌, ◌≤◌, true, false, L
 use Rattle.std.specs.List.{AllByRecursion}
 use Rattle.tablet_model.specs.Limits.{max_files}
 use Rattle.tablet_model.specs.Store.{Store, RunningJob}
-use Rattle.tablet_model.specs.Steps.{Event, StepAnswer, refuse, answered, is_empty, stepped, logged}
+use Rattle.tablet_model.specs.Steps.{Event, StepAnswer, refuse, answer_to_step, is_empty, store_after, log_after}
 use Rattle.tablet_model.specs.Stands.{StandsInJobs}
 use Rattle.iter_config.specs.RulesOf.{rules_of}
 use Rattle.iter_config.specs.declared.iter_spec.IterSpec.{IterSpec}
@@ -39,17 +39,17 @@ pub record IsStandingCore (k : CoreState) : Type 0 where
 
 -- one step of the store of lists, with its log, by one snapshot at the most; a refused one changes nothing
 pub record IsStep (e : Event) (k l : CoreState) : Type 0 where
-  pub store : state_of l ≡ stepped (rules_of k.view.config) (state_of k) e
-  pub log : l.view.log ≡ logged (rules_of k.view.config) (state_of k) k.view.log e
+  pub store : state_of l ≡ store_after (rules_of k.view.config) (state_of k) e
+  pub log : l.view.log ≡ log_after (rules_of k.view.config) (state_of k) k.view.log e
   pub config : l.view.config ≡ k.view.config
   pub extends : Extends l.view k.view
-  pub slow : l.view.version ≤ k.view.version + 1
+  pub version_rises_by_one_at_most : l.view.version ≤ k.view.version + 1
   pub unchanged : is_some (refuse (rules_of k.view.config) (state_of k) e) ≡ true → l ≡ k
 
 -- the answer is that of the step; without memory no refusal stands, and nothing is changed
 abbrev pub Answers : Event → CoreState → CoreState → Option StepAnswer → Type 0
 Answers e k l None = (refuse (rules_of k.view.config) (state_of k) e ≡ None) × (l ≡ k)
-Answers e k l (Some a) = (a ≡ answered (rules_of k.view.config) (state_of k) e) × IsStep e k l
+Answers e k l (Some a) = (a ≡ answer_to_step (rules_of k.view.config) (state_of k) e) × IsStep e k l
 
 -- a refusal is why a step is refused; none, that no refusal stands
 abbrev pub IsRefusal : Option StepRefusal → Option StepAnswer → Type 0

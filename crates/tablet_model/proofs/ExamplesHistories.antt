@@ -3,7 +3,7 @@ use Rattle.std.proofs.Common.{◌≡◌, ℕ, pos, Some, None, List, [], ◌∷�
 use Rattle.tablet_model.specs.Order.{column_cmp, time_cmp, key_cmp, cell_cmp, above, same_column}
 use Rattle.tablet_model.specs.Sorted.{put, sorted}
 use Rattle.tablet_model.specs.Cuts.{Everything, BeforeRow, BehindRow}
-use Rattle.tablet_model.specs.Kept.{kept}
+use Rattle.tablet_model.specs.Kept.{filter_beside}
 use Rattle.tablet_model.specs.Markers.{marker_beside, put_beside, hides, is_live, live}
 use Rattle.tablet_model.specs.Versions.{is_recent, versions}
 use Rattle.tablet_model.specs.Stages.{newest, stage, stages}
@@ -55,5 +55,5 @@ unfolding answer scan_of stages history_entries sorted put above cell_cmp key_cm
 a_scan_answers_what_lives = refl
 
 a_scan_keeps_to_its_range_and_families : answer (stages (newest 1 ∷ [])) (record { start = BeforeRow (codes "r1"); end = BehindRow (codes "r1") }) (Some (codes "n" ∷ [])) (one ∷ two ∷ three ∷ []) ≡ put_at (codes "x") 2 (codes "c") ∷ []
-unfolding answer scan_of stages stage versions kept is_recent put_beside history_entries sorted put above cell_cmp key_cmp column_cmp time_cmp live is_live hides marker_beside same_column
+unfolding answer scan_of stages stage versions filter_beside is_recent put_beside history_entries sorted put above cell_cmp key_cmp column_cmp time_cmp live is_live hides marker_beside same_column
 a_scan_keeps_to_its_range_and_families = refl

@@ -4,7 +4,7 @@ use Rattle.tablet_model.specs.Cell.{Cell}
 use Rattle.tablet_model.specs.Order.{column_cmp, time_cmp, key_cmp}
 use Rattle.tablet_model.specs.Cuts.{Cut, Everything, Before, Behind, BeforeRow, BehindRow, Span, within, is_row_reached}
 use Rattle.tablet_model.specs.Places.{Start, AfterKey, AfterRow, after}
-use Rattle.tablet_model.specs.Widened.{widened}
+use Rattle.tablet_model.specs.Widened.{widened_span}
 use Rattle.tablet_model.proofs.ExampleCells.{key, entry}
 
 abbrev x2 : Cell
@@ -61,11 +61,11 @@ a_cut_needs_no_entry = refl
 an_end_before_its_start_holds_nothing : within (from_to (BehindRow (codes "r1")) (BeforeRow (codes "r2"))) three ≡ []
 an_end_before_its_start_holds_nothing = refl
 
-a_widened_range_begins_with_the_column : within (widened (from_to (Behind x2.key) Everything)) three ≡ three
+a_widened_range_begins_with_the_column : within (widened_span (from_to (Behind x2.key) Everything)) three ≡ three
 unfolding key_cmp column_cmp time_cmp
 a_widened_range_begins_with_the_column = refl
 
-a_widened_range_keeps_its_end : within (widened (from_to (Behind x2.key) (Before x1.key))) three ≡ x2 ∷ []
+a_widened_range_keeps_its_end : within (widened_span (from_to (Behind x2.key) (Before x1.key))) three ≡ x2 ∷ []
 unfolding key_cmp column_cmp time_cmp
 a_widened_range_keeps_its_end = refl
 

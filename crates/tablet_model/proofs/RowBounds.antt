@@ -5,8 +5,8 @@ use Rattle.std.specs.List.{AllByRecursion}
 use Rattle.std.proofs.Math.Nat.{le_of_sub-eq-zero}
 use Rattle.tablet_model.specs.Bounds.{IsEntry, AreEntries}
 use Rattle.tablet_model.specs.Cell.{Cell}
-use Rattle.tablet_model.specs.Kept.{kept}
-use Rattle.tablet_model.specs.Rows.{leads_row, leads_hit, row_entry, whole_row, intersect, intersected, last_time}
+use Rattle.tablet_model.specs.Kept.{filter_beside}
+use Rattle.tablet_model.specs.Rows.{leads_row, leads_hit, row_entry, whole_row, intersect, intersect_terms, last_time}
 use Rattle.tablet_model.specs.RowText.{row_text, whole_rows}
 use Rattle.tablet_model.proofs.Combines.{NoMarkers}
 use Rattle.tablet_model.proofs.Maps.{all_map}
@@ -23,19 +23,19 @@ empty = le_of_sub-eq-zero refl
 pub whole_rows_bounded : (list : List Cell) → AreEntries list → AreEntries (whole_rows list)
 unfolding whole_row row_entry
 whole_rows_bounded list all =
-    all_map IsEntry IsEntry (row_entry last_time row_text list) (λ e h. ((h.0.0, h.0.1, empty, empty, empty), (le_z_yes tt, le_z_yes tt))) (kept leads_row [] list) (all_kept IsEntry leads_row [] list all)
+    all_map IsEntry IsEntry (row_entry last_time row_text list) (λ e h. ((h.0.0, h.0.1, empty, empty, empty), (le_z_yes tt, le_z_yes tt))) (filter_beside leads_row [] list) (all_kept IsEntry leads_row [] list all)
 
-pub intersected_bounded : (terms without : List (List ℕ)) (list : List Cell) → AreEntries list → AreEntries (intersected terms without list)
-unfolding intersected intersect
+pub intersected_bounded : (terms without : List (List ℕ)) (list : List Cell) → AreEntries list → AreEntries (intersect_terms terms without list)
+unfolding intersect_terms intersect
 intersected_bounded [] without list all = tt
 intersected_bounded (first ∷ others) without list all =
-    all_map IsEntry IsEntry _ (λ e h. ((h.0.0, h.0.1, empty, h.0.3, empty), (le_z_yes tt, le_z_yes tt))) (kept (leads_hit first others without list) [] list) (all_kept IsEntry (leads_hit first others without list) [] list all)
+    all_map IsEntry IsEntry _ (λ e h. ((h.0.0, h.0.1, empty, h.0.3, empty), (le_z_yes tt, le_z_yes tt))) (filter_beside (leads_hit first others without list) [] list) (all_kept IsEntry (leads_hit first others without list) [] list all)
 
 pub whole_rows_plain : (list : List Cell) → NoMarkers (whole_rows list)
 unfolding whole_row row_entry
-whole_rows_plain list = made_all (λ e. e.key.deleted ≡ false) (row_entry last_time row_text list) (λ e. refl) (kept leads_row [] list)
+whole_rows_plain list = made_all (λ e. e.key.deleted ≡ false) (row_entry last_time row_text list) (λ e. refl) (filter_beside leads_row [] list)
 
-pub intersected_plain : (terms without : List (List ℕ)) (list : List Cell) → NoMarkers (intersected terms without list)
-unfolding intersected intersect
+pub intersected_plain : (terms without : List (List ℕ)) (list : List Cell) → NoMarkers (intersect_terms terms without list)
+unfolding intersect_terms intersect
 intersected_plain [] without list = tt
-intersected_plain (first ∷ others) without list = made_all (λ e. e.key.deleted ≡ false) _ (λ e. refl) (kept (leads_hit first others without list) [] list)
+intersected_plain (first ∷ others) without list = made_all (λ e. e.key.deleted ≡ false) _ (λ e. refl) (filter_beside (leads_hit first others without list) [] list)

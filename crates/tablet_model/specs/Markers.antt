@@ -4,7 +4,7 @@ use Rattle.std.specs.List.{list_any}
 use Rattle.std.specs.Ordering.{int_cmp, is_gt}
 use Rattle.tablet_model.specs.Cell.{Cell}
 use Rattle.tablet_model.specs.Order.{same_column}
-use Rattle.tablet_model.specs.Kept.{kept}
+use Rattle.tablet_model.specs.Kept.{filter_beside}
 
 -- a marker of the column of e
 unfoldable pub marker_beside : Cell → Cell → Bool
@@ -32,7 +32,7 @@ is_unmarked before e = not (list_any (marker_beside e) before)
 
 -- what other compactions see of a list (this project's rule): of each column the newest marker and what sorts before it
 unfoldable pub mark : List Cell → List Cell
-mark list = kept is_unmarked [] list
+mark list = filter_beside is_unmarked [] list
 
 -- the entries that the markers of another list do not hide
 unfoldable pub clear_of : List Cell → List Cell → List Cell

@@ -4,7 +4,7 @@ use Rattle.std.specs.List.{list_any, list_all}
 use Rattle.std.specs.Ordering.{eq_by_cmp}
 use Rattle.tablet_model.specs.Cell.{Cell}
 use Rattle.tablet_model.specs.Order.{bytes_cmp}
-use Rattle.tablet_model.specs.Kept.{kept}
+use Rattle.tablet_model.specs.Kept.{filter_beside}
 
 -- whether two texts are equal
 unfoldable pub same_bytes : List ℕ → List ℕ → Bool
@@ -31,7 +31,7 @@ row_entry last text list e = record {
 
 -- the whole row iterator (Accumulo): one entry for each row, whose value is a text of the row's entries
 unfoldable pub whole_row : ℤ → (List Cell → List ℕ) → List Cell → List Cell
-whole_row last text list = map (row_entry last text list) (kept leads_row [] list)
+whole_row last text list = map (row_entry last text list) (filter_beside leads_row [] list)
 
 -- the list has the document of e under a term, in the row of e (Accumulo: row = partition, family = term, qualifier = document)
 unfoldable pub has_term : List Cell → Cell → List ℕ → Bool
@@ -50,9 +50,9 @@ unfoldable pub intersect : ℤ → List ℕ → List (List ℕ) → List (List �
 intersect last first others without list = map (λ e. record {
   key = record { row = e.key.row; family = []; qualifier = e.key.qualifier; visibility = []; time = last; deleted = false };
   value = [];
-}) (kept (leads_hit first others without list) [] list)
+}) (filter_beside (leads_hit first others without list) [] list)
 
 -- the documents that have all terms, of which there is one at least, and none of the terms that they are to be without
-unfoldable pub intersected : List (List ℕ) → List (List ℕ) → List Cell → List Cell
-intersected [] without list = []
-intersected (first ∷ others) without list = intersect last_time first others without list
+unfoldable pub intersect_terms : List (List ℕ) → List (List ℕ) → List Cell → List Cell
+intersect_terms [] without list = []
+intersect_terms (first ∷ others) without list = intersect last_time first others without list

@@ -9,7 +9,7 @@ use Rattle.tablet_model.specs.Stages.{stages}
 use Rattle.tablet_model.specs.History.{RowChange, history_entries}
 use Rattle.tablet_model.specs.Rules.{Rules, AreStorable}
 use Rattle.tablet_model.specs.Ingest.{IsHistory}
-use Rattle.tablet_model.specs.Store.{Store, File, RunningJob, cells_of, frozen_of, parts_of, all_of, has_id, named, unnamed}
+use Rattle.tablet_model.specs.Store.{Store, File, RunningJob, cells_of, frozen_of, parts_of, all_of, has_id, files_with, files_without}
 use Rattle.tablet_model.specs.Steps.{ids_of}
 
 -- the times of plain entries are above `low`, and at most `high`
@@ -73,7 +73,7 @@ pub record StandsInJobs (c : Rules) (s : Store) : Type 0 where
   pub files_there : AllByRecursion (λ t. AreThere s.files t.ids) s.jobs
   pub own_numbers : HaveOwnNumbers s.jobs
   pub files_apart : AreApartJobs s.jobs
-  pub others_newer : AllByRecursion (λ t. t.full ≡ true → AreAllNewer c.plain (cells_of (unnamed t.ids s.files)) (cells_of (named t.ids s.files))) s.jobs
+  pub others_newer : AllByRecursion (λ t. t.full ≡ true → AreAllNewer c.plain (cells_of (files_without t.ids s.files)) (cells_of (files_with t.ids s.files))) s.jobs
 
 -- a store stands for its history
 pub record Stands (c : Rules) (s : Store) (h : List RowChange) : Type 0 where

@@ -9,7 +9,7 @@ use Rattle.tablet_model.specs.Compactions.{minor_compaction, partial_compaction,
 use Rattle.tablet_model.specs.History.{RowChange, entries_of}
 use Rattle.tablet_model.specs.Rules.{Rules}
 use Rattle.tablet_model.specs.Ingest.{Refusal, ingest}
-use Rattle.tablet_model.specs.Store.{Store, File, RunningJob, frozen_of, has_id, unnamed, input_of}
+use Rattle.tablet_model.specs.Store.{Store, File, RunningJob, frozen_of, has_id, files_without, input_of}
 
 -- what a store is asked: to take a mutation in, to freeze its memory, to write the frozen part to a file, to start a job over files of
 -- ascending numbers or over all, and to put a job's result in the place of its files
@@ -99,7 +99,7 @@ made_by c s t = cond t.full (full_compaction c.major (input_of t.ids s.files)) (
 -- a store where a job's file stands in the place of its inputs, and the job is gone
 unfoldable pub without_job : Rules → Store → RunningJob → Store
 without_job c s t = record s {
-  files = unnamed t.ids s.files ++ record { id = s.next; cells = made_by c s t } ∷ [];
+  files = files_without t.ids s.files ++ record { id = s.next; cells = made_by c s t } ∷ [];
   next = s.next + 1;
   jobs = filter (λ u. not (eqb t.job u.job)) s.jobs;
 }
@@ -123,18 +123,18 @@ step_answer c s (compact_all j) = started j true
 step_answer c s (finish j) = elim (find_job j s.jobs) [ None ↦ no_such_job j | Some t ↦ finished j s.next (length (made_by c s t)) ]
 
 -- the answer to any step
-unfoldable pub answered : Rules → Store → Event → StepAnswer
-answered c s e = unwrap_or (refuse c s e) (step_answer c s e)
+unfoldable pub answer_to_step : Rules → Store → Event → StepAnswer
+answer_to_step c s e = unwrap_or (refuse c s e) (step_answer c s e)
 
 -- the store behind any step: a refused one changes nothing
-unfoldable pub stepped : Rules → Store → Event → Store
-stepped c s e = cond (is_some (refuse c s e)) s (step c s e)
+unfoldable pub store_after : Rules → Store → Event → Store
+store_after c s e = cond (is_some (refuse c s e)) s (step c s e)
 
 -- the log behind any step: a mutation that comes in stands at its end
-unfoldable pub logged : Rules → Store → List RowChange → Event → List RowChange
-logged c s h (apply m) = cond (is_some (ingest c s.count m)) h (h ++ m ∷ [])
-logged c s h freeze = h
-logged c s h flush = h
-logged c s h (compact j ids) = h
-logged c s h (compact_all j) = h
-logged c s h (finish j) = h
+unfoldable pub log_after : Rules → Store → List RowChange → Event → List RowChange
+log_after c s h (apply m) = cond (is_some (ingest c s.count m)) h (h ++ m ∷ [])
+log_after c s h freeze = h
+log_after c s h flush = h
+log_after c s h (compact j ids) = h
+log_after c s h (compact_all j) = h
+log_after c s h (finish j) = h

@@ -51,13 +51,13 @@ unfoldable pub has_id : List ℕ → ℕ → Bool
 has_id ids i = list_any (eqb i) ids
 
 -- the files of these numbers
-unfoldable pub named : List ℕ → List File → List File
-named ids files = filter (λ f. has_id ids f.id) files
+unfoldable pub files_with : List ℕ → List File → List File
+files_with ids files = filter (λ f. has_id ids f.id) files
 
 -- the files of other numbers
-unfoldable pub unnamed : List ℕ → List File → List File
-unnamed ids files = filter (λ f. not (has_id ids f.id)) files
+unfoldable pub files_without : List ℕ → List File → List File
+files_without ids files = filter (λ f. not (has_id ids f.id)) files
 
 -- what a job over the files of these numbers takes in: their entries, in order
 unfoldable pub input_of : List ℕ → List File → List Cell
-input_of ids files = sorted above (cells_of (named ids files))
+input_of ids files = sorted above (cells_of (files_with ids files))

@@ -7,15 +7,15 @@ use Rattle.std.proofs.lemmas.List.{take-append-le}
 use Rattle.tablet_model.specs.Cell.{Cell}
 use Rattle.tablet_model.specs.History.{RowChange}
 use Rattle.tablet_model.specs.Ingest.{ingest}
-use Rattle.tablet_model.specs.Places.{Place, after}
-use Rattle.tablet_model.specs.Steps.{Event, apply, freeze, flush, compact, compact_all, finish, stepped}
+
+use Rattle.tablet_model.specs.Steps.{Event, apply, freeze, flush, compact, compact_all, finish, store_after}
 use Rattle.tablet_model.specs.Store.{Store}
 use Rattle.tablet_model.proofs.Merges.{all_append}
 use Rattle.tablet_model.proofs.Sums.{all_weaker}
 use Rattle.iter_config.specs.RulesOf.{rules_of}
 use Rattle.iter_config.specs.declared.iter_spec.IterSpec.{IterSpec}
-use Rattle.scan_session.specs.Takes.{taken}
-use Rattle.scan_session.specs.Walks.{Walks, end_of, fetched}
+
+use Rattle.scan_session.specs.Walks.{Walks, end_of, fetch_pieces}
 use Rattle.scan_session.specs.declared.piece.Piece.{Piece}
 use Rattle.scan_session.proofs.Walking.{fetches_are_walks, walks_bounded, walks_join, walks_lower, walks_on}
 use Rattle.script_text.specs.Grammar.{line_of}
@@ -30,8 +30,8 @@ use Rattle.tablet_steps.specs.declared.refusal.LineRefusal.TheVariants.{NoSessio
 use Rattle.tablet_view.specs.Extending.{BeginsWith}
 use Rattle.tablet_view.proofs.Logs.{begins_length, begins_refl, begins_trans}
 use Rattle.tablet_replay.specs.Headline.{behind_lines, piece_given, given_step, given_by, given_along, is_close, ends_session, NoneEnds, HasScanned, AnswersStandInOrder, ScansAreWhole, OpeningsCover, RenewalsCover, FetchesSayTheirPieces, SessionsWalk, asks_store, StepsChangeNoAnswer}
-use Rattle.tablet_replay.specs.Replay.{Replayed, after_line, after_session_step, after_step, line_answer, log_behind, opened_scan, replayed_none, script_answers, session_text, where_open}
-use Rattle.tablet_replay.specs.Sessions.{OpenScan, fetch_text, find_session, next_entries, scanned, session_behind, session_rest, with_session, without_session}
+use Rattle.tablet_replay.specs.Replay.{Replayed, after_line, after_session_step, after_step, line_answer, log_behind, opened_scan, replayed_none, script_answers, session_text}
+use Rattle.tablet_replay.specs.Sessions.{OpenScan, fetch_text, find_session, next_entries, scan_answer, session_behind, session_rest, with_session, without_session}
 use Rattle.tablet_replay.proofs.Firsts.{all_with, all_without, first_added, first_has, first_passes, first_passing, first_set, first_stays, get_is, remove_beside, remove_is, set_beside, set_is, with_first}
 use Rattle.tablet_replay.proofs.OpenSessions.{pieces_are}
 
@@ -188,7 +188,7 @@ own_step r number s (Open range families isolated) there found unended =
     stays number (after_session_step r number (Open range families isolated)) r s refl (begins_refl r.log) there
     (still_found number (opened_scan r number range families isolated) s r.sessions (is_some (find_session number r.sessions)) found)
 own_step r number s (Fetch count) there found unended =
-    let walk = fetches_are_walks (λ k. scanned r.config s.range s.families (take k r.log)) s.n s.mode s.place s.n s.n count (le_refl s.n) (le_refl s.n) in (
+    let walk = fetches_are_walks (λ k. scan_answer r.config s.range s.families (take k r.log)) s.n s.mode s.place s.n s.n count (le_refl s.n) (le_refl s.n) in (
       session_behind r.config r.log count s,
       own_changed number (session_behind r.config r.log count) r.sessions s found (numbered number r.sessions s found),
       record {
@@ -284,13 +284,13 @@ first_of log earlier b k h = ap (take k) b.whole ∙ take-append-le k earlier b.
 joins : (new between old : Replayed) (u t s : OpenScan) (xs ys : List Piece) → HasScanned between old t s xs → HasScanned new between u t ys
     → HasScanned new old u s (xs ++ ys)
 joins new between old u t s xs ys a b =
-    let answers : ℕ → List Cell = λ k. scanned old.config s.range s.families (take k new.log) in
-    let first = walks_on (λ k. scanned old.config s.range s.families (take k between.log)) answers t.n u.n s.mode s.place t.place s.n a.last xs
-    (λ k h. ap (scanned old.config s.range s.families) (first_of new.log between.log b.log k (le_trans h a.there))) b.never_falls a.walk in
+    let answers : ℕ → List Cell = λ k. scan_answer old.config s.range s.families (take k new.log) in
+    let first = walks_on (λ k. scan_answer old.config s.range s.families (take k between.log)) answers t.n u.n s.mode s.place t.place s.n a.last xs
+    (λ k h. ap (scan_answer old.config s.range s.families) (first_of new.log between.log b.log k (le_trans h a.there))) b.never_falls a.walk in
     let second = subst (λ m. Walks answers u.n m t.place t.n ys u.place b.last) a.mode
-    (walks_on (λ k. scanned between.config t.range t.families (take k new.log)) answers u.n u.n t.mode t.place u.place t.n b.last ys
-    (λ k h. λ i. scanned (sym a.config i) (sym a.range i) (sym a.families i) (take k new.log)) (le_refl u.n) b.walk) in
-    let bound = walks_bounded (λ k. scanned old.config s.range s.families (take k between.log)) t.n s.mode s.place t.place s.n a.last xs a.never_falls a.walk in
+    (walks_on (λ k. scan_answer between.config t.range t.families (take k new.log)) answers u.n u.n t.mode t.place u.place t.n b.last ys
+    (λ k h. λ i. scan_answer (sym a.config i) (sym a.range i) (sym a.families i) (take k new.log)) (le_refl u.n) b.walk) in
+    let bound = walks_bounded (λ k. scan_answer old.config s.range s.families (take k between.log)) t.n s.mode s.place t.place s.n a.last xs a.never_falls a.walk in
     let lower = walks_lower answers u.n s.mode t.place u.place t.n a.last b.last ys bound.1 second in
     record {
       range = b.range ∙ a.range;
@@ -355,7 +355,7 @@ renewals_cover r number s found = (
 )
 
 pub fetches_say : FetchesSayTheirPieces
-unfolding line_answer session_text fetched
+unfolding line_answer session_text fetch_pieces
 fetches_say r number count s found =
     said number (fetch_text r.config r.log count) (find_session number r.sessions) s found
     ∙ ap (λ l. l ++ rest_line (end_of s.n (session_rest r.config r.log (session_behind r.config r.log count s))))
@@ -377,7 +377,7 @@ beside_store : (r : Replayed) (u : Store) (line : Option Line) → (v : Store) �
 unfolding after_line
 beside_store r u None = (u, refl)
 beside_store r u (Some Nothing) = (u, refl)
-beside_store r u (Some (Step event)) = (stepped (rules_of r.config) u (event_of event), refl)
+beside_store r u (Some (Step event)) = (store_after (rules_of r.config) u (event_of event), refl)
 beside_store r u (Some (Scan range families)) = (u, refl)
 beside_store r u (Some (Session k step)) = (u, session_beside r u k step)
 beside_store r u (Some Status) = (u, refl)
@@ -408,7 +408,7 @@ answer_beside r u (Some Status) h = absurd (cc)
 
 pub steps_change_none : StepsChangeNoAnswer
 steps_change_none r e lines line same h =
-    let u : Store = stepped (rules_of r.config) r.store e in
+    let u : Store = store_after (rules_of r.config) r.store e in
     let here : after_step r e ≡ record r { store = u } = ap (λ l. record r { log = l; store = u }) same in
     let rest = beside_lines r u lines in
     ap (λ t. line_answer (behind_lines t lines) line) here

@@ -10,14 +10,14 @@ use Rattle.tablet_model.specs.Places.{after}
 use Rattle.tablet_model.proofs.Merges.{all_append}
 use Rattle.tablet_model.proofs.Sums.{all_weaker}
 use Rattle.scan_session.specs.Sessions.{IsFetch, IsSameScan, SessionState, answer_over}
-use Rattle.scan_session.specs.Takes.{moved, taken}
-use Rattle.scan_session.specs.Walks.{end_of, fetched, pieces_of}
+use Rattle.scan_session.specs.Takes.{place_after, take_together}
+use Rattle.scan_session.specs.Walks.{end_of, fetch_pieces, pieces_of}
 use Rattle.scan_session.specs.declared.piece.Piece.{Piece}
 use Rattle.script_text.specs.Answers.{found_text}
 use Rattle.script_text.specs.SessionAnswers.{rest_line}
 use Rattle.tablet_view.specs.Extending.{BeginsWith, Extends}
 use Rattle.tablet_view.specs.Snapshot.{Snapshot}
-use Rattle.tablet_replay.specs.Sessions.{fetch_text, next_entries, place_of, scanned, session_answer, session_behind, session_rest}
+use Rattle.tablet_replay.specs.Sessions.{fetch_text, next_entries, place_of, scan_answer, session_answer, session_behind, session_rest}
 use Rattle.tablet_replay.specs.StatusText.{piece_text, pieces_text}
 use Rattle.tablet_replay.specs.TabletParts.{ArePinned, IsPinned, open_scan}
 use Rattle.tablet_replay.specs.declared.sessions.OpenSession.{OpenSession}
@@ -71,7 +71,7 @@ begins log rest earlier h = ap (take (length earlier)) h ∙ all earlier rest
 
 -- what a session answers over its view's log, it answers over the first mutations of the present one
 answers_are : (now : Snapshot) (s : OpenSession) → IsPinned now s → answer_over s.session s.session.view.log ≡ session_answer now.config now.log (open_scan s)
-answers_are now s p = λ i. scanned (p.config i) s.session.range s.session.families (sym (begins now.log p.log.rest s.session.view.log p.log.whole) i)
+answers_are now s p = λ i. scan_answer (p.config i) s.session.range s.session.families (sym (begins now.log p.log.rest s.session.view.log p.log.whole) i)
 
 same_scan : (t s : SessionState) → IsSameScan t s → t.view ≡ s.view → t ≡ record s { place = t.place }
 same_scan t s same v = λ i. record { view = v i; range = same.range i; families = same.families i; mode = same.mode i; place = t.place }
@@ -84,11 +84,11 @@ module _ (now : Snapshot) (s : OpenSession) (p : IsPinned now s) (count : ℕ) (
   left_is : after s.session.place (answer_over s.session s.session.view.log) ≡ after s.session.place (session_answer now.config now.log (open_scan s))
   left_is = ap (after s.session.place) (answers_are now s p)
 
-  next_is : taken s.session.mode count (after s.session.place (answer_over s.session s.session.view.log)) ≡ next_entries now.config now.log count (open_scan s)
-  next_is = ap (taken s.session.mode count) left_is
+  next_is : take_together s.session.mode count (after s.session.place (answer_over s.session s.session.view.log)) ≡ next_entries now.config now.log count (open_scan s)
+  next_is = ap (take_together s.session.mode count) left_is
 
-  place_moved : t.place ≡ moved s.session.mode s.session.place (next_entries now.config now.log count (open_scan s))
-  place_moved = whole.place ∙ ap (moved s.session.mode s.session.place) next_is
+  place_moved : t.place ≡ place_after s.session.mode s.session.place (next_entries now.config now.log count (open_scan s))
+  place_moved = whole.place ∙ ap (place_after s.session.mode s.session.place) next_is
 
   -- the session behind a fetch
   pub moved_is : open_scan (record s { session = t }) ≡ session_behind now.config now.log count (open_scan s)
@@ -96,11 +96,11 @@ module _ (now : Snapshot) (s : OpenSession) (p : IsPinned now s) (count : ℕ) (
 
   -- the text of what it gave
   pub said_is : pieces_text pieces ++ rest_line ended ≡ fetch_text now.config now.log count (open_scan s)
-  unfolding fetched
+  unfolding fetch_pieces
   said_is = λ i. front i ++ rest_line (back i)
     where
       front : pieces_text pieces ≡ found_text (length s.session.view.log) (next_entries now.config now.log count (open_scan s))
-      front = ap pieces_text whole.pieces ∙ pieces_are (length s.session.view.log) (taken s.session.mode count (after s.session.place (answer_over s.session s.session.view.log)))
+      front = ap pieces_text whole.pieces ∙ pieces_are (length s.session.view.log) (take_together s.session.mode count (after s.session.place (answer_over s.session s.session.view.log)))
           ∙ ap (found_text (length s.session.view.log)) next_is
 
       back : ended ≡ end_of (length s.session.view.log) (session_rest now.config now.log (session_behind now.config now.log count (open_scan s)))

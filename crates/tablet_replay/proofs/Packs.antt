@@ -1,5 +1,5 @@
 -- What `pack` makes of a view into which mutations alone came.
-use Rattle.std.proofs.Common.{◌≡◌, ℕ, ◌+◌, pos, Bool, true, false, cond, List, [], ◌∷◌, ◌++◌, length, Option, Some, None, is_some, option_map, unwrap_or, refl, sym, ap, subst, ◌∙◌}
+use Rattle.std.proofs.Common.{◌≡◌, ◌+◌, pos, cond, List, [], ◌∷◌, ◌++◌, length, Option, Some, None, is_some, option_map, unwrap_or, refl, sym, ap, subst, ◌∙◌}
 use Rattle.std.specs.List.{AllByRecursion, flat_map}
 use Rattle.tablet_model.specs.Cell.{Cell}
 use Rattle.tablet_model.specs.Families.{in_families}
@@ -8,7 +8,7 @@ use Rattle.tablet_model.specs.Ingest.{Refusal, ingest}
 use Rattle.tablet_model.specs.Order.{above}
 use Rattle.tablet_model.specs.Rules.{AreStorable, IsStorable, Rules}
 use Rattle.tablet_model.specs.Sorted.{sorted}
-use Rattle.tablet_model.specs.Steps.{StepAnswer, apply, logged, refuse, refused, step, stepped}
+use Rattle.tablet_model.specs.Steps.{apply, log_after, refuse, refused, step, store_after}
 use Rattle.tablet_model.specs.Store.{Store, all_of, cells_of, frozen_of, parts_of}
 use Rattle.tablet_model.specs.Sum.{sum_of}
 use Rattle.tablet_model.proofs.Histories.{history_ascends, history_grows}
@@ -16,7 +16,7 @@ use Rattle.tablet_model.proofs.Merges.{all_sorted}
 use Rattle.tablet_model.proofs.Orders.{above_exact}
 use Rattle.tablet_model.proofs.Sums.{sorted_same}
 use Rattle.iter_config.specs.RulesOf.{rules_of}
-use Rattle.iter_config.specs.declared.iter_spec.IterSpec.{IterSpec}
+
 use Rattle.compactor.specs.FileValues.{HasShortValue}
 use Rattle.compactor.proofs.Stored.{usage_short}
 use Rattle.iter_stack.specs.Usages.{usage_cells}
@@ -26,7 +26,7 @@ use Rattle.tablet_steps.specs.ModelSteps.{model_answer_of}
 use Rattle.tablet_steps.specs.declared.answer.Answer.{Answer}
 use Rattle.tablet_steps.specs.declared.answer.Answer.TheVariants as answer
 use Rattle.tablet_core.specs.State.{Answers, CoreState, IsStep, state_of}
-use Rattle.tablet_replay.specs.Packing.{IsInMemory, history_with, packed}
+use Rattle.tablet_replay.specs.Packing.{IsInMemory, history_with, pack_entries}
 
 -- ---- a mutation comes in
 
@@ -35,8 +35,8 @@ abbrev with_change : Store → RowChange → Option Refusal → Store
 with_change s m (Some r) = s
 with_change s m None = record s { count = s.count + 1; memory = sum_of s.memory (entries_of (pos (s.count + 1)) m) }
 
-stepped_is : (c : Rules) (s : Store) (m : RowChange) (o : Option Refusal) → ingest c s.count m ≡ o → stepped c s (apply m) ≡ with_change s m o
-unfolding stepped step refuse
+stepped_is : (c : Rules) (s : Store) (m : RowChange) (o : Option Refusal) → ingest c s.count m ≡ o → store_after c s (apply m) ≡ with_change s m o
+unfolding store_after step refuse
 stepped_is c s m o h = ap (λ o. cond (is_some (option_map refused o)) s (record s { count = s.count + 1; memory = sum_of s.memory (entries_of (pos (s.count + 1)) m) })) h ∙ go o
   where
     go : (o : Option Refusal) → cond (is_some (option_map refused o)) s (record s { count = s.count + 1; memory = sum_of s.memory (entries_of (pos (s.count + 1)) m) }) ≡ with_change s m o
@@ -55,12 +55,12 @@ taken_in k l m answer.NoMemory some h = absurd (some refl)
 
 -- the log behind it
 pub log_behind : (k l : CoreState) (m : RowChange) → IsStep (apply m) k l → l.view.log ≡ history_with k.view.config k.view.log m
-unfolding state_of store_of logged
+unfolding state_of store_of log_after
 log_behind k l m s = s.log
 
 -- all entries are in memory still
 pub memory_behind : (k l : CoreState) (m : RowChange) → IsStep (apply m) k l → IsInMemory k.view → IsInMemory l.view
-unfolding state_of store_of logged
+unfolding state_of store_of log_after
 memory_behind k l m s (files, frozen, memory) = go (ingest c (length k.view.log) m) refl
   where
     c : Rules
@@ -120,6 +120,6 @@ packed_short v list s h =
     subst (λ l. AllByRecursion HasShortValue (usage_cells v.config Pack l)) (sym (h ∙ all_in (entries_in v)))
     (usage_short v.config s.config Pack (λ e. absurd (let no : Pack ≡ Scan = e in cc)) (entries_in v) (storable v s))
 
-pub packed_is : (v : Snapshot) (list : List Cell) → IsInMemory v → list ≡ in_families None (entries_in v) → usage_cells v.config Pack list ≡ packed v.config v.log
+pub packed_is : (v : Snapshot) (list : List Cell) → IsInMemory v → list ≡ in_families None (entries_in v) → usage_cells v.config Pack list ≡ pack_entries v.config v.log
 unfolding usage_cells
 packed_is v list m h = ap (usage_cells v.config Pack) (h ∙ source_has v m)

@@ -3,17 +3,17 @@ use Rattle.std.proofs.Common.{◌≡◌, ◌==◌, ℕ, Bool, cond, List, [], �
 use Rattle.std.specs.Prelude.{flat_map, is_some, position, remove, slice_set, IsSomeAnd, OnOk, Result, Ok, Err}
 use Rattle.std.proofs.lemmas.List.{map-append}
 use Rattle.tablet_model.specs.Cuts.{Span}
-use Rattle.tablet_model.specs.Places.{Start, after}
+
 use Rattle.tablet_model.specs.Ingest.{ingest}
 use Rattle.tablet_model.specs.History.{RowChange}
-use Rattle.tablet_model.specs.Steps.{Event, StepAnswer, apply, freeze, flush, compact, compact_all, finish, logged}
+use Rattle.tablet_model.specs.Steps.{Event, StepAnswer, apply, freeze, flush, compact, compact_all, finish, log_after}
 use Rattle.tablet_model.specs.Store.{File, RunningJob, Store}
 use Rattle.iter_config.specs.RulesOf.{rules_of}
 use Rattle.iter_config.specs.declared.iter_spec.IterSpec.{IterSpec}
 use Rattle.compactor.specs.Jobs.{job_of}
 use Rattle.compactor.specs.declared.job_state.JobState.{JobState}
-use Rattle.scan_session.specs.Sessions.{SessionState, left_of}
-use Rattle.compactor.proofs.Written.{within_all}
+
+
 use Rattle.tablet_steps.specs.Texts.{refusal_line}
 use Rattle.script_text.specs.SessionAnswers.{opened_line}
 use Rattle.script_text.specs.declared.line.SessionStep.TheVariants as step
@@ -24,7 +24,7 @@ use Rattle.tablet_core.specs.Status.{IsStatusOf, count_of}
 use Rattle.tablet_core.specs.declared.status.StoreStatus.{StoreStatus}
 use Rattle.tablet_view.specs.Snapshot.{store_of}
 use Rattle.tablet_replay.specs.Replay.{Replayed, after_session_step, after_step, if_open, log_behind, session_text, opened_scan, where_open}
-use Rattle.tablet_replay.specs.Sessions.{OpenScan, find_session, place_of, scanned, with_session, without_session}
+use Rattle.tablet_replay.specs.Sessions.{OpenScan, find_session, place_of, with_session, without_session}
 use Rattle.tablet_replay.specs.StatusText.{count_lines, state_lines, status_lines}
 use Rattle.tablet_replay.specs.Status.{file_lines, job_lines, status_text}
 use Rattle.tablet_replay.specs.TabletParts.{ArePinned, open_scan, replayed_by}
@@ -37,8 +37,8 @@ pinned_step e k l None h ss all = subst (λ (m : CoreState). ArePinned m.view ss
 pinned_step e k l (Some a) h ss all = all_pinned k.view l.view h.1.extends ss all
 
 -- the history that the store's count gives is that of its own length
-pub logs_are : (config : List IterSpec) (s : Store) (log : List RowChange) (e : Event) → s.count ≡ length log → logged (rules_of config) s log e ≡ log_behind config log e
-unfolding logged log_behind
+pub logs_are : (config : List IterSpec) (s : Store) (log : List RowChange) (e : Event) → s.count ≡ length log → log_after (rules_of config) s log e ≡ log_behind config log e
+unfolding log_after log_behind
 logs_are config s log (apply m) h = ap (λ n. cond (is_some (ingest (rules_of config) n m)) log (log ++ m ∷ [])) h
 logs_are config s log freeze h = refl
 logs_are config s log flush h = refl
@@ -86,12 +86,6 @@ status_is k s h = λ i. log_line (h.log i) ++ memory_line (h.memory i) ++ frozen
 
     jobs : state_lines s.jobs ≡ job_lines k.jobs
     jobs = states_are s.jobs ∙ ap (flat_map (λ (j : RunningJob). job_line j.job j.full j.ids)) h.jobs
-
--- ---- scans
-
--- a session at its start has its whole answer left
-pub all_left : (s : SessionState) → s.place ≡ Start → left_of s ≡ scanned s.view.config s.range s.families s.view.log
-all_left s h = ap (λ p. after p (scanned s.view.config s.range s.families s.view.log)) h ∙ within_all (scanned s.view.config s.range s.families s.view.log)
 
 -- ---- sessions by their numbers
 

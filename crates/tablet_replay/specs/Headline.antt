@@ -1,23 +1,23 @@
 -- What the text of `replay` says of scans and sessions, line by line, as statements: this project's own theorems.
-use Rattle.std.specs.Prelude.{◌≡◌, ◌==◌, ℕ, ◌≤◌, Bool, true, false, cond, List, [], ◌∷◌, ◌++◌, length, take, Option, Some, None, nat_eq}
+use Rattle.std.specs.Prelude.{◌≡◌, ◌==◌, ℕ, ◌≤◌, Bool, true, false, cond, List, [], ◌∷◌, ◌++◌, length, take, Option, Some, None}
 use Rattle.tablet_model.specs.Answers.{answer}
 use Rattle.tablet_model.specs.Cuts.{Span}
 use Rattle.tablet_model.specs.Stages.{stages}
 use Rattle.tablet_model.specs.Steps.{Event}
 use Rattle.iter_config.specs.Stages.{stages_of}
 use Rattle.iter_config.specs.declared.iter_spec.IterSpec.{IterSpec}
-use Rattle.scan_session.specs.Walks.{Walks, end_of, fetched}
+use Rattle.scan_session.specs.Walks.{Walks, end_of, fetch_pieces}
 use Rattle.scan_session.specs.declared.piece.Piece.{Piece}
 use Rattle.script_text.specs.Answers.{scan_text}
 use Rattle.script_text.specs.Grammar.{line_of}
 use Rattle.script_text.specs.SessionAnswers.{opened_line, renewed_line, rest_line}
 use Rattle.script_text.specs.declared.line.Line.{Line}
-use Rattle.script_text.specs.declared.line.Line.TheVariants.{Nothing, Step, Scan, Session, Status}
+use Rattle.script_text.specs.declared.line.Line.TheVariants.{Step, Scan, Session, Status}
 use Rattle.script_text.specs.declared.line.SessionStep.{SessionStep}
-use Rattle.script_text.specs.declared.line.SessionStep.TheVariants.{Open, Fetch, Renew, Drop, Close}
+use Rattle.script_text.specs.declared.line.SessionStep.TheVariants.{Open, Fetch, Renew, Close}
 use Rattle.tablet_view.specs.Extending.{BeginsWith}
 use Rattle.tablet_replay.specs.Replay.{Replayed, after_line, after_step, line_answer, log_behind, opened_scan, replayed_none, script_answers}
-use Rattle.tablet_replay.specs.Sessions.{OpenScan, find_session, scanned, session_behind, session_rest}
+use Rattle.tablet_replay.specs.Sessions.{OpenScan, find_session, scan_answer, session_behind, session_rest}
 use Rattle.tablet_replay.specs.StatusText.{pieces_text}
 
 -- what a script has made behind some lines
@@ -28,7 +28,7 @@ behind_lines r (line ∷ lines) = behind_lines (after_line r (line_of line)) lin
 -- the piece that a fetch gives an open session, or none
 abbrev pub piece_given : Replayed → ℕ → Option OpenScan → List Piece
 piece_given r count None = []
-piece_given r count (Some s) = fetched s.mode count s.n (session_rest r.config r.log s)
+piece_given r count (Some s) = fetch_pieces s.mode count s.n (session_rest r.config r.log s)
 
 -- the pieces that the session of a number is given by a step of a session
 abbrev pub given_step : ℕ → Replayed → ℕ → SessionStep → List Piece
@@ -71,7 +71,7 @@ pub record HasScanned (new old : Replayed) (t s : OpenScan) (pieces : List Piece
   pub never_falls : s.n ≤ t.n
   pub there : t.n ≤ length new.log
   pub last : ℕ
-  pub walk : Walks (λ k. scanned old.config s.range s.families (take k new.log)) t.n s.mode s.place s.n pieces t.place last
+  pub walk : Walks (λ k. scan_answer old.config s.range s.families (take k new.log)) t.n s.mode s.place s.n pieces t.place last
 
 -- the answer to a line stands behind those of the lines before it
 abbrev pub AnswersStandInOrder : Type 0

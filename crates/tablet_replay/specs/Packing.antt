@@ -34,13 +34,13 @@ history_behind config h [] = h
 history_behind config h (line ∷ lines) = history_behind config (history_after config h (line_of line)) lines
 
 -- what the iterators of compactions make of the live entries of a history
-abbrev pub packed : List IterSpec → List RowChange → List Cell
-packed config h = stages (rules_of config).base (live (history_entries h))
+abbrev pub pack_entries : List IterSpec → List RowChange → List Cell
+pack_entries config h = stages (rules_of config).base (live (history_entries h))
 
 -- what is written under a configuration for the lines of a script, or under none
 abbrev pub pack_under : Result (List IterSpec) Fault → List (List ℕ) → List ℕ
 pack_under (Err f) lines = config_line f
-pack_under (Ok config) lines = image_of (packed config (history_behind config [] lines))
+pack_under (Ok config) lines = image_of (pack_entries config (history_behind config [] lines))
 
 -- what `pack` writes for an input
 unfoldable pub pack_text : List ℕ → List ℕ

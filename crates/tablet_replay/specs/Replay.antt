@@ -6,7 +6,7 @@ use Rattle.tablet_model.specs.Cuts.{Span}
 use Rattle.tablet_model.specs.History.{RowChange}
 use Rattle.tablet_model.specs.Places.{Start}
 use Rattle.tablet_model.specs.Ingest.{ingest}
-use Rattle.tablet_model.specs.Steps.{Event, apply, answered, stepped}
+use Rattle.tablet_model.specs.Steps.{Event, apply, answer_to_step, store_after}
 use Rattle.tablet_model.specs.Store.{Store, empty_store}
 use Rattle.iter_config.specs.Document.{config_of}
 use Rattle.iter_config.specs.Faults.{Fault}
@@ -25,7 +25,7 @@ use Rattle.tablet_steps.specs.ModelSteps.{event_of}
 use Rattle.tablet_steps.specs.Texts.{answer_line, refusal_line}
 use Rattle.tablet_steps.specs.declared.refusal.LineRefusal.TheVariants.{Syntax, NoSession, SessionOpen}
 use Rattle.tablet_replay.specs.Refusals.{config_line}
-use Rattle.tablet_replay.specs.Sessions.{OpenScan, fetch_text, find_session, scanned, session_behind, with_session, without_session}
+use Rattle.tablet_replay.specs.Sessions.{OpenScan, fetch_text, find_session, scan_answer, session_behind, with_session, without_session}
 use Rattle.tablet_replay.specs.Status.{status_text}
 
 -- what a script has made: under its configuration, the accepted mutations, a store of lists, and the open sessions
@@ -41,7 +41,7 @@ replayed_none config = record { config = config; log = []; store = empty_store; 
 
 -- the answer to a step of the store
 abbrev pub step_answer_text : Replayed → Event → List ℕ
-step_answer_text r e = answer_line (answered (rules_of r.config) r.store e)
+step_answer_text r e = answer_line (answer_to_step (rules_of r.config) r.store e)
 
 -- the history behind a step of the store: a mutation that comes in behind it, by its own length, stands at its end
 unfoldable pub log_behind : List IterSpec → List RowChange → Event → List RowChange
@@ -50,7 +50,7 @@ log_behind config log _ = log
 
 -- what is there behind a step of the store
 abbrev pub after_step : Replayed → Event → Replayed
-after_step r e = record r { log = log_behind r.config r.log e; store = stepped (rules_of r.config) r.store e }
+after_step r e = record r { log = log_behind r.config r.log e; store = store_after (rules_of r.config) r.store e }
 
 -- a session that is opened now
 abbrev pub opened_scan : Replayed → ℕ → Span → Option (List (List ℕ)) → Bool → OpenScan
@@ -95,7 +95,7 @@ unfoldable pub line_answer : Replayed → Option Line → List ℕ
 line_answer r None = refusal_line Syntax
 line_answer r (Some Nothing) = []
 line_answer r (Some (Step event)) = step_answer_text r (event_of event)
-line_answer r (Some (Scan range families)) = scan_text (length r.log) (scanned r.config range families r.log)
+line_answer r (Some (Scan range families)) = scan_text (length r.log) (scan_answer r.config range families r.log)
 line_answer r (Some (Session number step)) = session_text r number step
 line_answer r (Some Status) = status_text r.store
 

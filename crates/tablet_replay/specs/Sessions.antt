@@ -8,7 +8,7 @@ use Rattle.tablet_model.specs.Places.{Place, after}
 use Rattle.tablet_model.specs.Stages.{stages}
 use Rattle.iter_config.specs.Stages.{stages_of}
 use Rattle.iter_config.specs.declared.iter_spec.IterSpec.{IterSpec}
-use Rattle.scan_session.specs.Takes.{Mode, moved, taken}
+use Rattle.scan_session.specs.Takes.{Mode, place_after, take_together}
 use Rattle.scan_session.specs.Walks.{end_of}
 use Rattle.script_text.specs.Answers.{found_text}
 use Rattle.script_text.specs.SessionAnswers.{rest_line}
@@ -39,20 +39,20 @@ abbrev pub without_session : ℕ → List OpenScan → List OpenScan
 without_session number sessions = elim (place_of number sessions) [ None ↦ sessions | Some i ↦ remove sessions i ]
 
 -- what a scan answers over a log: the configured stack over its live entries of these families, in this range
-abbrev pub scanned : List IterSpec → Span → Option (List (List ℕ)) → List RowChange → List Cell
-scanned config range families log = answer (stages (stages_of config)) range families log
+abbrev pub scan_answer : List IterSpec → Span → Option (List (List ℕ)) → List RowChange → List Cell
+scan_answer config range families log = answer (stages (stages_of config)) range families log
 
 -- what a session answers
 abbrev pub session_answer : List IterSpec → List RowChange → OpenScan → List Cell
-session_answer config log s = scanned config s.range s.families (take s.n log)
+session_answer config log s = scan_answer config s.range s.families (take s.n log)
 
 -- the next entries of a session, `count` of them or more where they may not be parted, or all that are left
 abbrev pub next_entries : List IterSpec → List RowChange → ℕ → OpenScan → List Cell
-next_entries config log count s = taken s.mode count (after s.place (session_answer config log s))
+next_entries config log count s = take_together s.mode count (after s.place (session_answer config log s))
 
 -- the session behind them
 abbrev pub session_behind : List IterSpec → List RowChange → ℕ → OpenScan → OpenScan
-session_behind config log count s = record s { place = moved s.mode s.place (next_entries config log count s) }
+session_behind config log count s = record s { place = place_after s.mode s.place (next_entries config log count s) }
 
 -- what a session has left
 abbrev pub session_rest : List IterSpec → List RowChange → OpenScan → List Cell

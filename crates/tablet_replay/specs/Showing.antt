@@ -11,10 +11,10 @@ abbrev pub is_no_image : List ℕ → Bool
 is_no_image bytes = is_err (image_reading bytes)
 
 -- the entries and how many they are, or why there are none
-abbrev pub shown : Result (List Cell) Fault → List ℕ
-shown (Ok list) = entry_lines list ++ count_line (length list)
-shown (Err f) = image_line f
+abbrev pub listing_text : Result (List Cell) Fault → List ℕ
+listing_text (Ok list) = entry_lines list ++ count_line (length list)
+listing_text (Err f) = image_line f
 
 -- what `show` writes for an input
 unfoldable pub show_text : List ℕ → List ℕ
-show_text bytes = shown (image_reading bytes)
+show_text bytes = listing_text (image_reading bytes)

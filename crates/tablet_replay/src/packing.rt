@@ -4,7 +4,7 @@ ghost use Rattle.cell_key.specs.Mutations.{row_change_of};
 ghost use Rattle.script_text.specs.Grammar.{line_of};
 ghost use Rattle.script_text.specs.Lines.{lines_of};
 ghost use Rattle.tablet_view.specs.Snapshot.{IsStanding};
-ghost use Rattle.tablet_replay.specs.Packing.{IsInMemory, history_after, history_behind, history_with, packed};
+ghost use Rattle.tablet_replay.specs.Packing.{IsInMemory, history_after, history_behind, history_with, pack_entries};
 
 use cell_key::{Families, Mutation, NoMemory};
 use compactor::compact;
@@ -19,7 +19,7 @@ use tablet_view::View;
 
 /// The file of what the iterators of compactions make of the mutations of a script.
 pub fn file_of_script(alloc: Global, config: Config, script: &[u8]) -> Result<SortedFile, NoMemory>
-    ensures { IfOk result (λ file. file ≡ packed config (history_behind config [] (lines_of script.now))) }
+    ensures { IfOk result (λ file. file ≡ pack_entries config (history_behind config [] (lines_of script.now))) }
 {
     let core = loaded(alloc, config, script)?;
     packed(alloc, core.view())
@@ -46,7 +46,7 @@ fn take_line(alloc: Global, core: &mut Core, line: &[u8]) -> Result<(), NoMemory
     ensures config { OnOk result (core.new.view.config ≡ core.old.view.config) }
     ensures log { OnOk result (core.new.view.log ≡ history_after core.old.view.config core.old.view.log (line_of line.now)) }
     ensures memory { OnOk result (IsInMemory core.new.view) }
-    ensures slow { OnOk result (core.new.view.version ≤ core.old.view.version + 1) }
+    ensures version_rises_by_one_at_most { OnOk result (core.new.view.version ≤ core.old.view.version + 1) }
 {
     match parse_line(alloc, line) {
         Err(LineError::NoMemory) => Err(NoMemory),
@@ -62,7 +62,7 @@ fn take_mutation(alloc: Global, core: &mut Core, mutation: Mutation) -> Result<(
     ensures config { OnOk result (core.new.view.config ≡ core.old.view.config) }
     ensures log { OnOk result (core.new.view.log ≡ history_with core.old.view.config core.old.view.log (row_change_of mutation)) }
     ensures memory { OnOk result (IsInMemory core.new.view) }
-    ensures slow { OnOk result (core.new.view.version ≤ core.old.view.version + 1) }
+    ensures version_rises_by_one_at_most { OnOk result (core.new.view.version ≤ core.old.view.version + 1) }
 {
     match core.step(alloc, &Event::Apply(mutation)) {
         Answer::NoMemory => Err(NoMemory),
@@ -74,7 +74,7 @@ fn take_mutation(alloc: Global, core: &mut Core, mutation: Mutation) -> Result<(
 fn packed(alloc: Global, view: &View) -> Result<SortedFile, NoMemory>
     requires stands { IsStanding view.now }
     requires memory { IsInMemory view.now }
-    ensures { IfOk result (λ file. file ≡ packed view.now.config view.now.log) }
+    ensures { IfOk result (λ file. file ≡ pack_entries view.now.config view.now.log) }
 {
     let source = view.source(alloc, &Families::all())?;
     compact(alloc, view.config(), Usage::Pack, source)

@@ -47,7 +47,7 @@ fn send_answer<O: Sink>(
     ensures bytes { Sends (text.old ++ line_answer (replayed_by tablet.old) (line_of line.now)) (O.taken output.old) (O.taken output.new) text.new result }
     ensures cause { HasCause (O.faults output.old) (O.faults output.new) result }
     ensures state { OnOk result (replayed_by tablet.new ≡ after_line (replayed_by tablet.old) (line_of line.now)) }
-    ensures slow { OnOk result (tablet.new.core.view.version ≤ tablet.old.core.view.version + 1) }
+    ensures version_rises_by_one_at_most { OnOk result (tablet.new.core.view.version ≤ tablet.old.core.view.version + 1) }
 {
     answer_line(alloc, tablet, line, text, output)?;
     Ok(send_full(text, output)?)
@@ -77,7 +77,7 @@ fn answer_line<O: Sink>(
     ensures bytes { Sends (text.old ++ line_answer (replayed_by tablet.old) (line_of line.now)) (O.taken output.old) (O.taken output.new) text.new result }
     ensures cause { HasCause (O.faults output.old) (O.faults output.new) result }
     ensures state { OnOk result (replayed_by tablet.new ≡ after_line (replayed_by tablet.old) (line_of line.now)) }
-    ensures slow { OnOk result (tablet.new.core.view.version ≤ tablet.old.core.view.version + 1) }
+    ensures version_rises_by_one_at_most { OnOk result (tablet.new.core.view.version ≤ tablet.old.core.view.version + 1) }
 {
     match read_line(alloc, line)? {
         Some(Line::Scan { range, families }) => tablet.scan(alloc, &range, &families, text, output),
@@ -103,7 +103,7 @@ fn answer_in_text(
     requires short { asks_entries read ≡ false }
     ensures text { OnOk result (text.new ≡ text.old ++ line_answer (replayed_by tablet.old) read) }
     ensures state { OnOk result (replayed_by tablet.new ≡ after_line (replayed_by tablet.old) read) }
-    ensures slow { OnOk result (tablet.new.core.view.version ≤ tablet.old.core.view.version + 1) }
+    ensures version_rises_by_one_at_most { OnOk result (tablet.new.core.view.version ≤ tablet.old.core.view.version + 1) }
 {
     match read {
         None => LineRefusal::Syntax.append(alloc, text),

@@ -3,7 +3,7 @@ ghost use Rattle.std.specs.Prelude.{◌++◌, Ok};
 ghost use Rattle.std.specs.Arc.{arc_value};
 ghost use Rattle.script_text.specs.Answers.{entry_lines};
 ghost use Rattle.tablet_replay.specs.Replies.{HasCause, Replies, Sends};
-ghost use Rattle.tablet_replay.specs.Showing.{shown};
+ghost use Rattle.tablet_replay.specs.Showing.{listing_text};
 
 use crate::outcome::ReplyError;
 use crate::scan::send_lines;
@@ -23,7 +23,7 @@ pub fn show_file<O: Sink>(
     file: Arc<SortedFile>,
     output: &mut O,
 ) -> Result<(), ReplyError>
-    ensures text { Replies (shown (Ok (arc_value file))) (O.taken output.old) (O.taken output.new) result }
+    ensures text { Replies (listing_text (Ok (arc_value file))) (O.taken output.old) (O.taken output.new) result }
     ensures cause { HasCause (O.faults output.old) (O.faults output.new) result }
 {
     let mut text = ByteText::new(alloc);

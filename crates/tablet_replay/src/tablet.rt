@@ -75,7 +75,7 @@ impl Tablet {
     ghost use Rattle.script_text.specs.Answers.{scan_text};
     ghost use Rattle.tablet_replay.specs.Replay.{after_session_step, is_fetch, session_text};
     ghost use Rattle.tablet_replay.specs.Status.{status_text};
-    ghost use Rattle.tablet_replay.specs.Sessions.{scanned};
+    ghost use Rattle.tablet_replay.specs.Sessions.{scan_answer};
 
     /// Nothing yet, under a configuration.
     pub fn open(alloc: Global, config: Config) -> Result<Tablet, NoMemory>
@@ -98,7 +98,7 @@ impl Tablet {
         requires { self.old.core.view.version < 2 ^ 63 }
         ensures text { OnOk result (text.new ≡ text.old ++ step_answer_text (replayed_by self.old) (event_of event.now)) }
         ensures state { OnOk result (replayed_by self.new ≡ after_step (replayed_by self.old) (event_of event.now)) }
-        ensures slow { OnOk result (self.new.core.view.version ≤ self.old.core.view.version + 1) }
+        ensures version_rises_by_one_at_most { OnOk result (self.new.core.view.version ≤ self.old.core.view.version + 1) }
     {
         let answer = self.core.step(alloc, event);
         answer.append(alloc, text)

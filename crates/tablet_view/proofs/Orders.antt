@@ -3,7 +3,7 @@ use Rattle.std.proofs.Common.{◌≡◌, ℕ, ◌+◌, ◌<◌, ◌≤◌, List,
 use Rattle.tablet_model.specs.Cell.{Cell}
 use Rattle.tablet_model.specs.History.{RowChange}
 use Rattle.tablet_view.specs.Extending.{Extends}
-use Rattle.tablet_view.specs.Snapshot.{Snapshot, applied, flushed, frozen, replaced}
+use Rattle.tablet_view.specs.Snapshot.{Snapshot, after_apply, after_flush, after_freeze, after_major}
 use Rattle.tablet_view.proofs.Logs.{begins_length, begins_refl, begins_trans}
 
 pub extends_refl : (v : Snapshot) → Extends v v
@@ -32,14 +32,14 @@ extends_step v more u c l n = record {
   rises = λ h. omega (arith, n);
 }
 
-pub extends_applied : (v : Snapshot) (m : RowChange) → Extends (applied v m) v
-extends_applied v m = extends_step v (m ∷ []) (applied v m) refl refl refl
+pub extends_applied : (v : Snapshot) (m : RowChange) → Extends (after_apply v m) v
+extends_applied v m = extends_step v (m ∷ []) (after_apply v m) refl refl refl
 
-pub extends_frozen : (v : Snapshot) → Extends (frozen v) v
-extends_frozen v = extends_step v [] (frozen v) refl (sym (append-nil v.log)) refl
+pub extends_frozen : (v : Snapshot) → Extends (after_freeze v) v
+extends_frozen v = extends_step v [] (after_freeze v) refl (sym (append-nil v.log)) refl
 
-pub extends_flushed : (v : Snapshot) (id : ℕ) (cells : List Cell) → Extends (flushed v id cells) v
-extends_flushed v id cells = extends_step v [] (flushed v id cells) refl (sym (append-nil v.log)) refl
+pub extends_flushed : (v : Snapshot) (id : ℕ) (cells : List Cell) → Extends (after_flush v id cells) v
+extends_flushed v id cells = extends_step v [] (after_flush v id cells) refl (sym (append-nil v.log)) refl
 
-pub extends_replaced : (v : Snapshot) (ids : List ℕ) (id : ℕ) (cells : List Cell) → Extends (replaced v ids id cells) v
-extends_replaced v ids id cells = extends_step v [] (replaced v ids id cells) refl (sym (append-nil v.log)) refl
+pub extends_replaced : (v : Snapshot) (ids : List ℕ) (id : ℕ) (cells : List Cell) → Extends (after_major v ids id cells) v
+extends_replaced v ids id cells = extends_step v [] (after_major v ids id cells) refl (sym (append-nil v.log)) refl

@@ -3,7 +3,7 @@ use Rattle.std.proofs.Common.{◌≡◌, ℕ, ◌+◌, ◌<◌, true, false, not
 use Rattle.std.proofs.lemmas.List.{map-append, take_more}
 use Rattle.std.proofs.lemmas.List.Elements.{filter-append}
 use Rattle.std.specs.Arc.{arc_value}
-use Rattle.tablet_model.specs.Store.{File, has_id, unnamed}
+use Rattle.tablet_model.specs.Store.{File, has_id, files_without}
 use Rattle.tablet_view.specs.FileParts.{file_of}
 use Rattle.tablet_view.specs.declared.files.StoredFile.{StoredFile}
 
@@ -13,25 +13,25 @@ file_cells [] = refl
 file_cells (f ∷ fs) = ap (λ l. arc_value f.file ∷ l) (file_cells fs)
 
 -- of no numbers, none is named
-pub none_named : (files : List File) → unnamed [] files ≡ files
-unfolding unnamed has_id
+pub none_named : (files : List File) → files_without [] files ≡ files
+unfolding files_without has_id
 none_named [] = refl
 none_named (f ∷ fs) = ap (λ l. f ∷ l) (none_named fs)
 
 module _ {X : Type 0} (file : X → File) (ids : List ℕ) (xs : List X) (i : ℕ) (x : X) (lt : i < length xs) (at : x ≡ get_or xs i x) where
-  one_more : unnamed ids (map file (take (i + 1) xs)) ≡ unnamed ids (map file (take i xs)) ++ unnamed ids (file x ∷ [])
-  unfolding unnamed
+  one_more : files_without ids (map file (take (i + 1) xs)) ≡ files_without ids (map file (take i xs)) ++ files_without ids (file x ∷ [])
+  unfolding files_without
   one_more =
-      ap (λ l. unnamed ids (map file l)) (take_more xs i x lt ∙ ap (λ y. take i xs ++ y ∷ []) (sym at))
-      ∙ ap (unnamed ids) (map-append file (take i xs) (x ∷ []))
+      ap (λ l. files_without ids (map file l)) (take_more xs i x lt ∙ ap (λ y. take i xs ++ y ∷ []) (sym at))
+      ∙ ap (files_without ids) (map-append file (take i xs) (x ∷ []))
       ∙ filter-append (λ f. not (has_id ids f.id)) (map file (take i xs)) (file x ∷ [])
 
   -- a file of these numbers is passed over
-  pub unnamed_skips : has_id ids (file x).id ≡ true → unnamed ids (map file (take (i + 1) xs)) ≡ unnamed ids (map file (take i xs))
-  unfolding unnamed
-  unnamed_skips h = one_more ∙ ap (λ b. unnamed ids (map file (take i xs)) ++ cond (not b) (file x ∷ []) []) h ∙ append-nil (unnamed ids (map file (take i xs)))
+  pub unnamed_skips : has_id ids (file x).id ≡ true → files_without ids (map file (take (i + 1) xs)) ≡ files_without ids (map file (take i xs))
+  unfolding files_without
+  unnamed_skips h = one_more ∙ ap (λ b. files_without ids (map file (take i xs)) ++ cond (not b) (file x ∷ []) []) h ∙ append-nil (files_without ids (map file (take i xs)))
 
   -- and another is taken
-  pub unnamed_takes : has_id ids (file x).id ≡ false → unnamed ids (map file (take (i + 1) xs)) ≡ unnamed ids (map file (take i xs)) ++ file x ∷ []
-  unfolding unnamed
-  unnamed_takes h = one_more ∙ ap (λ b. unnamed ids (map file (take i xs)) ++ cond (not b) (file x ∷ []) []) h
+  pub unnamed_takes : has_id ids (file x).id ≡ false → files_without ids (map file (take (i + 1) xs)) ≡ files_without ids (map file (take i xs)) ++ file x ∷ []
+  unfolding files_without
+  unnamed_takes h = one_more ∙ ap (λ b. files_without ids (map file (take i xs)) ++ cond (not b) (file x ∷ []) []) h

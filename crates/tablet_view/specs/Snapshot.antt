@@ -5,7 +5,7 @@ use Rattle.tablet_model.specs.Compactions.{partial_compaction, full_compaction}
 use Rattle.tablet_model.specs.History.{RowChange, entries_of}
 use Rattle.tablet_model.specs.Ingest.{Refusal, ingest}
 use Rattle.tablet_model.specs.Stands.{StandsInParts, AreAllNewer}
-use Rattle.tablet_model.specs.Store.{Store, File, RunningJob, all_of, cells_of, input_of, named, unnamed}
+use Rattle.tablet_model.specs.Store.{Store, File, RunningJob, all_of, cells_of, input_of, files_with, files_without}
 use Rattle.tablet_model.specs.Sum.{sum_of}
 use Rattle.iter_config.specs.Order.{IsConfig}
 use Rattle.iter_config.specs.RulesOf.{rules_of}
@@ -42,24 +42,24 @@ abbrev pub refused_by : Snapshot → RowChange → Option Refusal
 refused_by v m = ingest (rules_of v.config) (length v.log) m
 
 -- where a mutation comes in, with the next number as its time
-abbrev pub applied : Snapshot → RowChange → Snapshot
-applied v m = record v { log = v.log ++ m ∷ []; memory = sum_of v.memory (entries_of (pos (length v.log + 1)) m); version = v.version + 1 }
+abbrev pub after_apply : Snapshot → RowChange → Snapshot
+after_apply v m = record v { log = v.log ++ m ∷ []; memory = sum_of v.memory (entries_of (pos (length v.log + 1)) m); version = v.version + 1 }
 
 -- where the memory is frozen
-abbrev pub frozen : Snapshot → Snapshot
-frozen v = record v { frozen = Some v.memory; memory = []; version = v.version + 1 }
+abbrev pub after_freeze : Snapshot → Snapshot
+after_freeze v = record v { frozen = Some v.memory; memory = []; version = v.version + 1 }
 
 -- where a file stands in the place of the frozen part
-abbrev pub flushed : Snapshot → ℕ → List Cell → Snapshot
-flushed v id cells = record v { files = v.files ++ record { id = id; cells = cells } ∷ []; frozen = None; version = v.version + 1 }
+abbrev pub after_flush : Snapshot → ℕ → List Cell → Snapshot
+after_flush v id cells = record v { files = v.files ++ record { id = id; cells = cells } ∷ []; frozen = None; version = v.version + 1 }
 
 -- where a file stands in the place of those of some numbers
-abbrev pub replaced : Snapshot → List ℕ → ℕ → List Cell → Snapshot
-replaced v ids id cells = record v { files = unnamed ids v.files ++ record { id = id; cells = cells } ∷ []; version = v.version + 1 }
+abbrev pub after_major : Snapshot → List ℕ → ℕ → List Cell → Snapshot
+after_major v ids id cells = record v { files = files_without ids v.files ++ record { id = id; cells = cells } ∷ []; version = v.version + 1 }
 
 -- the entries of the other files are newer than those of the files of these numbers
 abbrev pub OthersAreNewer : Snapshot → List ℕ → Type 0
-OthersAreNewer v ids = AreAllNewer (rules_of v.config).plain (cells_of (unnamed ids v.files)) (cells_of (named ids v.files))
+OthersAreNewer v ids = AreAllNewer (rules_of v.config).plain (cells_of (files_without ids v.files)) (cells_of (files_with ids v.files))
 
 -- a list is a partial compaction of the files of these numbers, or a full one, and then all other entries are newer
 abbrev pub IsMajorOf : Snapshot → List ℕ → List Cell → Type 0

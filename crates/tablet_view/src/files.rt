@@ -1,7 +1,7 @@
 //! The files of a view, by their numbers.
 ghost use Rattle.std.specs.Prelude.{◌≡◌, ◌<◌, [], ◌∷◌, ◌++◌, Some, length, map, slice_get, IfOk};
 ghost use Rattle.std.specs.Arc.{arc_value};
-ghost use Rattle.tablet_model.specs.Store.{unnamed};
+ghost use Rattle.tablet_model.specs.Store.{files_without};
 ghost use Rattle.compactor.specs.PartCells.{part_cells};
 ghost use Rattle.tablet_view.specs.FileParts.{file_of};
 
@@ -65,7 +65,7 @@ impl Files {
         file: &Arc<SortedFile>,
     ) -> Result<Files, NoMemory>
         ensures { IfOk result (λ files. files
-            ≡ unnamed ids.now self.now ++ record { id = id; cells = arc_value file.now } ∷ []) }
+            ≡ files_without ids.now self.now ++ record { id = id; cells = arc_value file.now } ∷ []) }
     {
         let mut files = other_files(alloc, &self.files, ids)?;
         let file = Arc::try_clone(file)?;
@@ -107,7 +107,7 @@ fn other_files(
     files: &[StoredFile],
     ids: &FileIds,
 ) -> Result<Vec<StoredFile>, NoMemory>
-    ensures { IfOk result (λ others. map file_of others.items ≡ unnamed ids.now (map file_of files.now)) }
+    ensures { IfOk result (λ others. map file_of others.items ≡ files_without ids.now (map file_of files.now)) }
 {
     let mut others = Vec::new(alloc);
     for stored in files {

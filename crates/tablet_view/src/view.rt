@@ -12,13 +12,13 @@ ghost use Rattle.cell_key.specs.Mutations.{row_change_of};
 ghost use Rattle.iter_config.specs.RulesOf.{rules_of};
 ghost use Rattle.iter_config.specs.Stages.{stages_of};
 ghost use Rattle.iter_contract.specs.Copies.{IsCopy};
-ghost use Rattle.compactor.specs.Compacted.{compacted};
+ghost use Rattle.compactor.specs.Compacted.{entries_made};
 ghost use Rattle.compactor.specs.PartCells.{part_cells, union_of};
 ghost use Rattle.iter_stack.specs.Usages.{usage_cells};
 ghost use Rattle.iter_stack.specs.declared.usage.Usage.TheVariants.{Scan};
 ghost use Rattle.tablet_view.specs.Extending.{BeginsWith};
 ghost use Rattle.tablet_view.specs.Refusals.{refusal_in};
-ghost use Rattle.tablet_view.specs.Snapshot.{IsStanding, IsMajorOf, applied, empty_snapshot, entries_in, flushed, frozen, refused_by, replaced};
+ghost use Rattle.tablet_view.specs.Snapshot.{IsStanding, IsMajorOf, after_apply, empty_snapshot, entries_in, after_flush, after_freeze, refused_by, after_major};
 ghost use Rattle.tablet_view.specs.Sources.{source_cells, source_rest, source_valid};
 
 use crate::apply_error::ApplyError;
@@ -85,7 +85,7 @@ impl View {
         requires { self.now.version < 2 ^ 63 }
         ensures { MatchResult result
             (λ view. (refused_by self.now (row_change_of mutation.now) ≡ None)
-            × (view ≡ applied self.now (row_change_of mutation.now)))
+            × (view ≡ after_apply self.now (row_change_of mutation.now)))
             (λ error. refused_by self.now (row_change_of mutation.now) ≡ refusal_in error) }
     {
         if let Some(refused) = ingest::check(&self.config, self.log.len() as u64, mutation) {
@@ -98,7 +98,7 @@ impl View {
     fn with_mutation(&self, alloc: Global, mutation: &Mutation) -> Result<View, NoMemory>
         requires version { self.now.version < 2 ^ 63 }
         requires free { refused_by self.now (row_change_of mutation.now) ≡ None }
-        ensures { IfOk result (λ view. view ≡ applied self.now (row_change_of mutation.now)) }
+        ensures { IfOk result (λ view. view ≡ after_apply self.now (row_change_of mutation.now)) }
     {
         let time = self.log.len() as i64 + 1;
         let entries = mutation_entries(alloc, mutation, time)?;
@@ -121,7 +121,7 @@ impl View {
     pub fn freeze(&self, alloc: Global) -> Result<View, NoMemory>
         requires version { self.now.version < 2 ^ 63 }
         requires free { self.now.frozen ≡ None }
-        ensures { IfOk result (λ view. view ≡ frozen self.now) }
+        ensures { IfOk result (λ view. view ≡ after_freeze self.now) }
     {
         let config = Arc::try_clone(&self.config)?;
         let log = Arc::try_clone(&self.log)?;
@@ -144,8 +144,8 @@ impl View {
         requires version { self.now.version < 2 ^ 63 }
         requires frozen { IsSome self.now.frozen }
         requires above { AreBelow id self.now.files }
-        requires made { compacted done.now ≡ minor_compaction (rules_of self.now.config).minor (unwrap_or self.now.frozen []) }
-        ensures { IfOk result (λ view. view ≡ flushed self.now id (compacted done.now)) }
+        requires made { entries_made done.now ≡ minor_compaction (rules_of self.now.config).minor (unwrap_or self.now.frozen []) }
+        ensures { IfOk result (λ view. view ≡ after_flush self.now id (entries_made done.now)) }
     {
         let config = Arc::try_clone(&self.config)?;
         let log = Arc::try_clone(&self.log)?;
@@ -175,8 +175,8 @@ impl View {
     ) -> Result<View, NoMemory>
         requires version { self.now.version < 2 ^ 63 }
         requires above { AreBelow id self.now.files }
-        requires made { IsMajorOf self.now ids.now (compacted done.now) }
-        ensures { IfOk result (λ view. view ≡ replaced self.now ids.now id (compacted done.now)) }
+        requires made { IsMajorOf self.now ids.now (entries_made done.now) }
+        ensures { IfOk result (λ view. view ≡ after_major self.now ids.now id (entries_made done.now)) }
     {
         let config = Arc::try_clone(&self.config)?;
         let log = Arc::try_clone(&self.log)?;

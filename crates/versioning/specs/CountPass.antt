@@ -8,17 +8,17 @@ use Rattle.tablet_model.specs.Columns.{is_column}
 use Rattle.tablet_model.specs.Sorted.{Ascends, from_first}
 use Rattle.tablet_model.specs.Bounds.{AreEntries}
 use Rattle.tablet_model.specs.Cuts.{is_behind, within, Span}
-use Rattle.tablet_model.specs.Widened.{widened}
-use Rattle.tablet_model.specs.Kept.{kept}
+use Rattle.tablet_model.specs.Widened.{widened_span}
+use Rattle.tablet_model.specs.Kept.{filter_beside}
 use Rattle.tablet_model.specs.Versions.{versions, is_recent}
-use Rattle.tablet_model.proofs.Orders.{above_exact, same_column_equiv}
+use Rattle.tablet_model.proofs.Orders.{same_column_equiv}
 use Rattle.tablet_model.proofs.Combines.{all_both}
 use Rattle.tablet_model.proofs.Columns.{recent_looks}
 use Rattle.tablet_model.proofs.Cursors.{column_between, recent_rest, met, versions_rest}
 use Rattle.tablet_model.proofs.Seeks.{seek_kept}
 use Rattle.stages.specs.Passes.{kept_from}
 use Rattle.stages.proofs.Plain.{not_above_itself, none_up_to, same_up_to, below_most, one_more, at_most, stays_at_most}
-use Rattle.versioning.specs.VersionStages.{counted_of, keeps, passed, uncounted}
+use Rattle.versioning.specs.VersionStages.{counted_of, keeps, after_entry, without_count}
 use Rattle.versioning.specs.declared.version_stage.VersionStage.{VersionStage}
 
 -- ---- the count, beside a cursor that counts without end
@@ -69,7 +69,7 @@ agrees_counted s m e k (y ∷ ys) h = (go (same_column e y), agrees_counted s m 
 -- so the pass gives what the cursor gives
 recent_is : (s : VersionStage) (c : Cell) (k : ℕ) (list : List Cell)
     → Ascends above list → AllByRecursion (λ e. above c e ≡ false) list → Agrees s c k list
-    → kept_from keeps passed s list ≡ recent_rest s.max c k list
+    → kept_from keeps after_entry s list ≡ recent_rest s.max c k list
 unfolding recent_rest Ascends
 recent_is s c k [] up low a = refl
 recent_is s c k (e ∷ es) up low a =
@@ -84,18 +84,18 @@ recent_is s c k (e ∷ es) up low a =
     counted : VersionStage
     counted = record s { column = Some (column_of e.key); counted = m + 1 }
 
-    is_kept : (b d : Bool) (rest : List Cell) → b ≡ true → d ≡ true → kept_from keeps passed counted es ≡ rest
-        → cond b (e ∷ kept_from keeps passed (cond b counted s) es) (kept_from keeps passed (cond b counted s) es) ≡ cond d (e ∷ rest) rest
+    is_kept : (b d : Bool) (rest : List Cell) → b ≡ true → d ≡ true → kept_from keeps after_entry counted es ≡ rest
+        → cond b (e ∷ kept_from keeps after_entry (cond b counted s) es) (kept_from keeps after_entry (cond b counted s) es) ≡ cond d (e ∷ rest) rest
     is_kept b d rest h g i = rw h (rw g (ap (λ l. e ∷ l) i))
 
-    is_dropped : (b d : Bool) (rest : List Cell) → b ≡ false → d ≡ false → kept_from keeps passed s es ≡ rest
-        → cond b (e ∷ kept_from keeps passed (cond b counted s) es) (kept_from keeps passed (cond b counted s) es) ≡ cond d (e ∷ rest) rest
+    is_dropped : (b d : Bool) (rest : List Cell) → b ≡ false → d ≡ false → kept_from keeps after_entry s es ≡ rest
+        → cond b (e ∷ kept_from keeps after_entry (cond b counted s) es) (kept_from keeps after_entry (cond b counted s) es) ≡ cond d (e ∷ rest) rest
     is_dropped b d rest h g i = rw h (rw g i)
 
     go : (d : Bool) → (q < s.max) ⊎ (s.max ≤ q)
-        → ((k' : ℕ) → Agrees s e k' es → kept_from keeps passed s es ≡ recent_rest s.max e k' es)
-        → ((k' : ℕ) → Agrees counted e k' es → kept_from keeps passed counted es ≡ recent_rest s.max e k' es)
-        → cond (d || ltb m s.max) (e ∷ kept_from keeps passed (cond (not d && ltb m s.max) counted s) es) (kept_from keeps passed (cond (not d && ltb m s.max) counted s) es)
+        → ((k' : ℕ) → Agrees s e k' es → kept_from keeps after_entry s es ≡ recent_rest s.max e k' es)
+        → ((k' : ℕ) → Agrees counted e k' es → kept_from keeps after_entry counted es ≡ recent_rest s.max e k' es)
+        → cond (d || ltb m s.max) (e ∷ kept_from keeps after_entry (cond (not d && ltb m s.max) counted s) es) (kept_from keeps after_entry (cond (not d && ltb m s.max) counted s) es)
         ≡ cond (d || ltb q s.max) (e ∷ recent_rest s.max e (cond d 0 1 + q) es) (recent_rest s.max e (cond d 0 1 + q) es)
     go true at f g =
         ap (λ l. e ∷ l) (f (0 + q) (agrees_uncounted s c k e (0 + q) es low.0 up.0 (same_up_to s.max q) a.1))
@@ -106,7 +106,7 @@ recent_is s c k (e ∷ es) up low a =
         is_dropped _ _ _ (le-ltb m s.max (at_most s.max m q a.0 h)) (le-ltb q s.max h)
         (f (1 + q) (agrees_uncounted s c k e (1 + q) es low.0 up.0 (stays_at_most s.max q h) a.1))
 
-none_counted : (s : VersionStage) (e : Cell) (list : List Cell) → Agrees (uncounted s) e 0 list
+none_counted : (s : VersionStage) (e : Cell) (list : List Cell) → Agrees (without_count s) e 0 list
 none_counted s e [] = tt
 none_counted s e (y ∷ ys) = (none (is_column s.column (column_of y.key)) (same_column e y), none_counted s e ys)
   where
@@ -116,15 +116,15 @@ none_counted s e (y ∷ ys) = (none (is_column s.column (column_of y.key)) (same
 
 -- the pass over a list in order
 pub version_pass : (s : VersionStage) (list : List Cell) → Ascends above list
-    → kept_from keeps passed (uncounted s) list ≡ versions s.max list
-unfolding versions kept Ascends
+    → kept_from keeps after_entry (without_count s) list ≡ versions s.max list
+unfolding versions filter_beside Ascends
 version_pass s [] up = refl
 version_pass s (e ∷ es) up =
-    recent_is (uncounted s) e 0 (e ∷ es) up (not_above_itself e, up.0) (none_counted s e (e ∷ es))
+    recent_is (without_count s) e 0 (e ∷ es) up (not_above_itself e, up.0) (none_counted s e (e ∷ es))
     ∙ sym (versions_rest s.max e es up)
 
 -- the range from the start's column on, from the start on
 pub version_narrows : (n : ℕ) (s : Span) (list : List Cell) → Ascends above list → AreEntries list
-    → from_first (λ e. is_behind s.start e.key) (versions n (within (widened s) list)) ≡ within s (versions n list)
+    → from_first (λ e. is_behind s.start e.key) (versions n (within (widened_span s) list)) ≡ within s (versions n list)
 unfolding versions
 version_narrows n s list up en = seek_kept (is_recent n) (recent_looks n) s list up en

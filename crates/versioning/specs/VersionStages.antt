@@ -22,11 +22,11 @@ abbrev pub keeps : VersionStage → Cell → Bool
 keeps s e = e.key.deleted || nat_lt (counted_of s (column_of e.key)) s.max
 
 -- behind an entry: a version that is kept is counted
-abbrev pub passed : VersionStage → Cell → VersionStage
-passed s e =
+abbrev pub after_entry : VersionStage → Cell → VersionStage
+after_entry s e =
     cond (not e.key.deleted && nat_lt (counted_of s (column_of e.key)) s.max)
     (record s { column = Some (column_of e.key); counted = counted_of s (column_of e.key) + 1 }) s
 
 -- before a list
-abbrev pub uncounted : VersionStage → VersionStage
-uncounted s = record s { counted = 0 }
+abbrev pub without_count : VersionStage → VersionStage
+without_count s = record s { counted = 0 }

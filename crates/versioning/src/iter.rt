@@ -3,7 +3,7 @@ ghost use Rattle.std.specs.Prelude.{◌≤◌, IfOk};
 ghost use Rattle.tablet_model.specs.Versions.{versions};
 ghost use Rattle.iter_contract.specs.Copies.{IsCopy};
 ghost use Rattle.stages.specs.StagedParts.{staged_cells, staged_rest, staged_steady, staged_valid};
-ghost use Rattle.versioning.specs.VersionStages.{version_made, keeps, passed};
+ghost use Rattle.versioning.specs.VersionStages.{version_made, keeps, after_entry};
 
 use crate::version_stage::VersionStage;
 use cell_key::NoMemory;

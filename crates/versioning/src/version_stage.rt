@@ -46,16 +46,16 @@ impl VersionStage {
 
 impl Stage for VersionStage {
     ghost use Rattle.std.specs.Prelude.{true};
-    ghost use Rattle.versioning.specs.VersionStages.{version_made, keeps, passed, uncounted};
+    ghost use Rattle.versioning.specs.VersionStages.{version_made, keeps, after_entry, without_count};
     ghost use Rattle.versioning.specs.CountPass.{version_pass, version_narrows};
 
     ghost made = { version_made };
 
     ghost keeps = { keeps };
 
-    ghost passed = { passed };
+    ghost passed = { after_entry };
 
-    ghost restarted = { uncounted };
+    ghost restarted = { without_count };
 
     ghost wide = { λ _. true };
 

@@ -10,7 +10,7 @@ use Rattle.std.proofs.lemmas.List.Folds.{list_any-append}
 use Rattle.tablet_model.specs.Cell.{Cell}
 use Rattle.tablet_model.specs.Order.{above, bytes_cmp}
 use Rattle.tablet_model.specs.Sorted.{Ascends}
-use Rattle.tablet_model.specs.Kept.{kept}
+use Rattle.tablet_model.specs.Kept.{filter_beside}
 use Rattle.tablet_model.specs.Rows.{same_bytes, same_row, leads_row, row_entry, whole_row, last_time}
 use Rattle.tablet_model.proofs.CutLemmas.{key_le, row_le}
 use Rattle.tablet_model.proofs.Risings.{all_kept}
@@ -83,8 +83,8 @@ met_more e x before m u h = go (same_row u x)
     go true = refl
     go false = m u h
 
-kept_rest : (e : Cell) (before us list : List Cell) → Met e before → InRow e us → kept leads_row before (us ++ list) ≡ kept leads_row (rev_onto before us) list
-unfolding kept leads_row
+kept_rest : (e : Cell) (before us list : List Cell) → Met e before → InRow e us → filter_beside leads_row before (us ++ list) ≡ filter_beside leads_row (rev_onto before us) list
+unfolding filter_beside leads_row
 kept_rest e before [] list m h = refl
 kept_rest e before (u ∷ us) list m h = rw (m u h.0) (kept_rest e (u ∷ before) us list (met_more e u before m) h.1)
 
@@ -96,8 +96,8 @@ leads_others e y ys before h n = ap not (list_any-append (same_row y) ys before 
     or_false true = refl
     or_false false = refl
 
-kept_others : (e : Cell) (ys before list : List Cell) → InRow e before → NoneInRow e list → kept leads_row (ys ++ before) list ≡ kept leads_row ys list
-unfolding kept
+kept_others : (e : Cell) (ys before list : List Cell) → InRow e before → NoneInRow e list → filter_beside leads_row (ys ++ before) list ≡ filter_beside leads_row ys list
+unfolding filter_beside
 kept_others e ys before [] h n = refl
 kept_others e ys before (y ∷ list) h n = rw (leads_others e y ys before h n.0, kept_others e (y ∷ ys) before list h n.1) refl
 
@@ -105,8 +105,8 @@ itself : (e : Cell) → same_row e e ≡ true
 unfolding same_row
 itself e = same_texts e.key.row e.key.row refl
 
-kept_row : (e : Cell) (us list : List Cell) → InRow e us → NoneInRow e list → kept leads_row [] ((e ∷ us) ++ list) ≡ e ∷ kept leads_row [] list
-unfolding kept leads_row
+kept_row : (e : Cell) (us list : List Cell) → InRow e us → NoneInRow e list → filter_beside leads_row [] ((e ∷ us) ++ list) ≡ e ∷ filter_beside leads_row [] list
+unfolding filter_beside leads_row
 kept_row e us list h n =
     ap (λ l. e ∷ l) (kept_rest e (e ∷ []) us list (λ u k. any_in_row e u [] k) h ∙ kept_others e [] (rev_onto (e ∷ []) us) list (all_rev e (e ∷ []) us (itself e, tt) h) n)
 
@@ -139,9 +139,9 @@ unfolding whole_row
 whole_block e us list h n =
     let all : List Cell = (e ∷ us) ++ list in
     ap (map (row_entry last_time row_text all)) (kept_row e us list h n)
-    ∙ ap (λ x. x ∷ map (row_entry last_time row_text all) (kept leads_row [] list)) (first_entry e us list h n)
-    ∙ ap (λ l. record { key = row_key e.key.row; value = row_text (e ∷ us) } ∷ l) (map_same (row_entry last_time row_text all) (row_entry last_time row_text list) (kept leads_row [] list)
-    (all_weaker (λ y. same_row e y ≡ false) (λ y. row_entry last_time row_text all y ≡ row_entry last_time row_text list y) (λ y k. other_entry e y us list h k) (kept leads_row [] list) (all_kept (λ y. same_row e y ≡ false) leads_row [] list n)))
+    ∙ ap (λ x. x ∷ map (row_entry last_time row_text all) (filter_beside leads_row [] list)) (first_entry e us list h n)
+    ∙ ap (λ l. record { key = row_key e.key.row; value = row_text (e ∷ us) } ∷ l) (map_same (row_entry last_time row_text all) (row_entry last_time row_text list) (filter_beside leads_row [] list)
+    (all_weaker (λ y. same_row e y ≡ false) (λ y. row_entry last_time row_text all y ≡ row_entry last_time row_text list y) (λ y k. other_entry e y us list h k) (filter_beside leads_row [] list) (all_kept (λ y. same_row e y ≡ false) leads_row [] list n)))
 
 -- ---- the pass
 
@@ -178,7 +178,7 @@ unfolding row_text
 shown_row e us list body h b n = ap (λ b. record { key = row_key e.key.row; value = body_text b } ∷ whole_rows list) b ∙ sym (whole_block e us list h n)
 
 no_rows : whole_rows [] ≡ []
-unfolding whole_row kept
+unfolding whole_row filter_beside
 no_rows = refl
 
 -- behind the first entry of another row none is of the row before

@@ -7,7 +7,7 @@ use Rattle.std.proofs.lemmas.Map.Views.{any-filter_same}
 use Rattle.tablet_model.specs.Cell.{Cell, CellKey}
 use Rattle.tablet_model.specs.Order.{above, key_cmp, bytes_cmp}
 use Rattle.tablet_model.specs.Sorted.{Ascends, from_first}
-use Rattle.tablet_model.specs.Kept.{kept}
+use Rattle.tablet_model.specs.Kept.{filter_beside}
 use Rattle.tablet_model.specs.Cuts.{Cut, Everything, Before, Behind, BeforeRow, BehindRow, is_behind, is_before, within, Span}
 use Rattle.tablet_model.specs.Rows.{same_row, leads_row, row_entry, whole_row, last_time}
 use Rattle.tablet_model.proofs.Orders.{above_exact, key_total}
@@ -30,12 +30,12 @@ abbrev IsOfRows : (Cell → Bool) → Type 0
 IsOfRows q = (c e : Cell) → same_row c e ≡ true → q c ≡ q e
 
 kept_step : (q : Cell → Bool) (keeps : List Cell → Cell → Bool) (before : List Cell) (e : Cell) (es : List Cell) → (q e ≡ true → keeps (filter q before) e ≡ keeps before e)
-    → filter q (kept keeps (e ∷ before) es) ≡ kept keeps (filter q (e ∷ before)) (filter q es) → filter q (kept keeps before (e ∷ es)) ≡ kept keeps (filter q before) (filter q (e ∷ es))
-unfolding kept
+    → filter q (filter_beside keeps (e ∷ before) es) ≡ filter_beside keeps (filter q (e ∷ before)) (filter q es) → filter q (filter_beside keeps before (e ∷ es)) ≡ filter_beside keeps (filter q before) (filter q (e ∷ es))
+unfolding filter_beside
 kept_step q keeps before e es h ih = grind arith
 
-kept_rows : (q : Cell → Bool) → IsOfRows q → (before list : List Cell) → filter q (kept leads_row before list) ≡ kept leads_row (filter q before) (filter q list)
-unfolding kept leads_row
+kept_rows : (q : Cell → Bool) → IsOfRows q → (before list : List Cell) → filter q (filter_beside leads_row before list) ≡ filter_beside leads_row (filter q before) (filter q list)
+unfolding filter_beside leads_row
 kept_rows q h before [] = refl
 kept_rows q h before (e ∷ es) =
     kept_step q leads_row before e es (λ k. ap not (any-filter_same (same_row e) q true (λ m s. sym (h e m s) ∙ k) before)) (kept_rows q h (e ∷ before) es)
@@ -54,7 +54,7 @@ row_entry_within q h list e k =
 rows_within : (q : Cell → Bool) → IsOfRows q → (list : List Cell) → filter q (whole_rows list) ≡ whole_rows (filter q list)
 unfolding whole_row
 rows_within q h list =
-    filter_map_within q (row_entry last_time row_text list) (row_entry last_time row_text (filter q list)) (row_entry_of q h list) (row_entry_within q h list) (kept leads_row [] list)
+    filter_map_within q (row_entry last_time row_text list) (row_entry last_time row_text (filter q list)) (row_entry_of q h list) (row_entry_within q h list) (filter_beside leads_row [] list)
     ∙ ap (λ l. map (row_entry last_time row_text (filter q list)) l) (kept_rows q h [] list)
 
 -- ---- starts of rows

@@ -1,12 +1,12 @@
 -- The entries of whole rows are in order. This is this project's own.
-use Rattle.std.proofs.Common.{◌≡◌, ◌≤◌, ℕ, Bool, true, false, List, [], ◌∷◌, map, length, refl, sym, ap, ◌∙◌, Equal, Less, Greater, Ordering}
+use Rattle.std.proofs.Common.{◌≡◌, ℕ, Bool, true, false, List, [], ◌∷◌, map, refl, sym, ap, ◌∙◌, Equal, Less, Greater, Ordering}
 use Rattle.std.specs.List.{filter}
 use Rattle.std.specs.Ordering.{is_gt, ordering_then}
 use Rattle.std.proofs.lemmas.Map.Lookups.{exact_bytes}
 use Rattle.tablet_model.specs.Cell.{Cell}
 use Rattle.tablet_model.specs.Order.{above, cell_cmp, key_cmp, column_cmp, bytes_cmp}
 use Rattle.tablet_model.specs.Sorted.{Ascends}
-use Rattle.tablet_model.specs.Kept.{kept}
+use Rattle.tablet_model.specs.Kept.{filter_beside}
 use Rattle.tablet_model.specs.Rows.{same_bytes, same_row, leads_row, row_entry, whole_row, last_time}
 use Rattle.tablet_model.proofs.Orders.{above_exact}
 use Rattle.tablet_model.proofs.CutLemmas.{key_le, row_le}
@@ -50,4 +50,4 @@ row_entry_order list x y h = go (bytes_cmp x.key.row y.key.row) refl (row_le x.k
 -- whole rows are in order
 pub Ascends-whole_rows : (list : List Cell) → Ascends above list → Ascends above (whole_rows list)
 unfolding whole_row
-Ascends-whole_rows list up = Ascends-map (row_entry last_time row_text list) (row_entry_order list) (kept leads_row [] list) (Ascends-kept leads_row [] list up)
+Ascends-whole_rows list up = Ascends-map (row_entry last_time row_text list) (row_entry_order list) (filter_beside leads_row [] list) (Ascends-kept leads_row [] list up)

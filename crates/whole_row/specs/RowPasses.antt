@@ -19,23 +19,23 @@ joins None e = false
 joins (Some held) e = same_bytes held.row e.key.row
 
 -- what is held with an entry more
-abbrev pub added : Option Held → Cell → Option Held
-added None e = None
-added (Some held) e = Some (record { row = held.row; body = with_entry held.body e })
+abbrev pub held_with : Option Held → Cell → Option Held
+held_with None e = None
+held_with (Some held) e = Some (record { row = held.row; body = with_entry held.body e })
 
 -- what is held after the first entry of a row
-abbrev pub begun : Cell → Option Held
-begun e = Some (record { row = e.key.row; body = with_entry no_entries e })
+abbrev pub held_from : Cell → Option Held
+held_from e = Some (record { row = e.key.row; body = with_entry no_entries e })
 
 -- what is held, in front of what follows
-abbrev pub shown : Option Held → List Cell → List Cell
-shown None list = list
-shown (Some held) list = record { key = row_key held.row; value = body_text held.body } ∷ list
+abbrev pub with_held : Option Held → List Cell → List Cell
+with_held None list = list
+with_held (Some held) list = record { key = row_key held.row; value = body_text held.body } ∷ list
 
 -- what the pass makes of what is left, where a row may be held
 abbrev pub rows_from : Option Held → List Cell → List Cell
-rows_from held [] = shown held []
-rows_from held (e ∷ es) = cond (joins held e) (rows_from (added held e) es) (shown held (rows_from (begun e) es))
+rows_from held [] = with_held held []
+rows_from held (e ∷ es) = cond (joins held e) (rows_from (held_with held e) es) (with_held held (rows_from (held_from e) es))
 
 -- what is held, if something is: the row of a column, and its entries
 abbrev pub held_of : Bool → Option Column → Body → Option Held

@@ -4,7 +4,7 @@ ghost use Rattle.tablet_model.specs.Cuts.{is_behind};
 ghost use Rattle.tablet_model.specs.Sorted.{first, later, from_first};
 ghost use Rattle.cell_key.specs.Ranges.{cut_of};
 ghost use Rattle.cell_key.specs.Views.{cell_of};
-ghost use Rattle.whole_row.specs.RowPasses.{held_of, is_row, is_settled, is_whole, rows_from, shown};
+ghost use Rattle.whole_row.specs.RowPasses.{held_of, is_row, is_settled, is_whole, rows_from, with_held};
 
 use crate::buf::RowBuf;
 use cell_key::{Bound, ColumnBuf, EntryRef, KeyRef, NoMemory, lies_behind};
@@ -77,7 +77,7 @@ pub(crate) fn held_entry<'a>(
     is_held: bool,
 ) -> Option<EntryRef<'a>>
     requires { is_whole is_held column.now ≡ true }
-    ensures { option_map cell_of result ≡ first (shown (held_of is_held column.now buf.now) []) }
+    ensures { option_map cell_of result ≡ first (with_held (held_of is_held column.now buf.now) []) }
 {
     if !is_held {
         return None;

@@ -4,7 +4,7 @@ ghost use Rattle.std.specs.Arc.{arc_value};
 ghost use Rattle.tablet_model.specs.Steps as model;
 ghost use Rattle.cell_key.specs.Mutations.{row_change_of};
 ghost use Rattle.tablet_view.specs.Refusals.{refusal_in};
-ghost use Rattle.tablet_view.specs.Snapshot.{applied, refused_by};
+ghost use Rattle.tablet_view.specs.Snapshot.{after_apply, refused_by};
 ghost use Rattle.tablet_steps.specs.ModelSteps.{model_answer_of};
 ghost use Rattle.tablet_core.specs.State.{Answers};
 
@@ -20,7 +20,7 @@ impl Core {
         requires { self.now.view.version < 2 ^ 63 }
         ensures { MatchResult result
             (λ view. (refused_by self.now.view (row_change_of mutation.now) ≡ None)
-            × (arc_value view ≡ applied self.now.view (row_change_of mutation.now)))
+            × (arc_value view ≡ after_apply self.now.view (row_change_of mutation.now)))
             (λ error. refused_by self.now.view (row_change_of mutation.now) ≡ refusal_in error) }
     {
         let view = self.view.apply(alloc, mutation)?;

@@ -3,12 +3,12 @@ ghost use Rattle.std.specs.Prelude.{◌≡◌, ◌<◌, ◌^◌, cond, true, is_
 ghost use Rattle.std.specs.Arc.{arc_value};
 ghost use Rattle.tablet_model.specs.Steps as model;
 ghost use Rattle.tablet_model.specs.Steps.{find_job, made_by};
-ghost use Rattle.tablet_model.specs.Store.{input_of, named};
+ghost use Rattle.tablet_model.specs.Store.{input_of, files_with};
 ghost use Rattle.iter_config.specs.RulesOf.{rules_of};
-ghost use Rattle.compactor.specs.Compacted.{compacted};
+ghost use Rattle.compactor.specs.Compacted.{entries_made};
 ghost use Rattle.compactor.specs.PartCells.{part_cells};
 ghost use Rattle.compactor.specs.Jobs.{job_of};
-ghost use Rattle.tablet_view.specs.Snapshot.{replaced};
+ghost use Rattle.tablet_view.specs.Snapshot.{after_major};
 ghost use Rattle.tablet_steps.specs.ModelSteps.{model_answer_of};
 ghost use Rattle.tablet_core.specs.Jobs.{major_of};
 ghost use Rattle.tablet_core.specs.State.{Answers, state_of};
@@ -35,7 +35,7 @@ fn usage_of(full: bool) -> Usage
 
 /// The entries of each of some files of a view.
 fn parts(view: &View, files: &FileIds, alloc: Global) -> Result<Vec<PartCursor>, NoMemory>
-    ensures { IfOk result (λ parts. map part_cells parts.items ≡ map (λ file. file.cells) (named files.now view.now.files)) }
+    ensures { IfOk result (λ parts. map part_cells parts.items ≡ map (λ file. file.cells) (files_with files.now view.now.files)) }
 {
     let mut parts = Vec::new(alloc);
     for i in 0..view.file_count() {
@@ -75,10 +75,10 @@ impl Core {
         done: &DoneJob,
     ) -> Result<Option<Arc<View>>, NoMemory>
         requires version { self.now.view.version < 2 ^ 63 }
-        requires made { IfSome (find_job job self.now.jobs) (λ t. compacted done.now ≡ made_by (rules_of self.now.view.config) (state_of self.now) t) }
+        requires made { IfSome (find_job job self.now.jobs) (λ t. entries_made done.now ≡ made_by (rules_of self.now.view.config) (state_of self.now) t) }
         ensures { MatchResult result
             (λ view. option_map (λ v. arc_value v) view
-            ≡ option_map (λ t. replaced self.now.view t.ids self.now.next (compacted done.now)) (find_job job self.now.jobs))
+            ≡ option_map (λ t. after_major self.now.view t.ids self.now.next (entries_made done.now)) (find_job job self.now.jobs))
             (λ _. is_some (find_job job self.now.jobs) ≡ true) }
     {
         match self.jobs.find(job) {
@@ -95,7 +95,7 @@ impl Core {
     /// The file of a job stands in the place of the job's files, whose compaction it has to be, and the job is over.
     pub fn install_finish(&mut self, alloc: Global, job: u32, done: &DoneJob) -> Answer
         requires version { self.old.view.version < 2 ^ 63 }
-        requires made { IfSome (find_job job self.old.jobs) (λ t. compacted done.now ≡ made_by (rules_of self.old.view.config) (state_of self.old) t) }
+        requires made { IfSome (find_job job self.old.jobs) (λ t. entries_made done.now ≡ made_by (rules_of self.old.view.config) (state_of self.old) t) }
         ensures { Answers (model.finish job) self.old self.new (model_answer_of result) }
     {
         // That the core stands before the step is what `view` says.

@@ -5,8 +5,8 @@ ghost use Rattle.tablet_model.specs.Compactions.{minor_compaction};
 ghost use Rattle.tablet_model.specs.Steps as model;
 ghost use Rattle.tablet_model.specs.Steps.{refuse};
 ghost use Rattle.iter_config.specs.RulesOf.{rules_of};
-ghost use Rattle.compactor.specs.Compacted.{compacted};
-ghost use Rattle.tablet_view.specs.Snapshot.{flushed};
+ghost use Rattle.compactor.specs.Compacted.{entries_made};
+ghost use Rattle.tablet_view.specs.Snapshot.{after_flush};
 ghost use Rattle.tablet_steps.specs.ModelSteps.{model_answer_of};
 ghost use Rattle.tablet_core.specs.Jobs.{flush_of};
 ghost use Rattle.tablet_core.specs.State.{Answers, IsRefusal, state_of};
@@ -54,8 +54,8 @@ impl Core {
     fn view_after_flush(&self, alloc: Global, done: &DoneJob) -> Result<Arc<View>, NoMemory>
         requires version { self.now.view.version < 2 ^ 63 }
         requires frozen { IsSome self.now.view.frozen }
-        requires made { compacted done.now ≡ minor_compaction (rules_of self.now.view.config).minor (unwrap_or self.now.view.frozen []) }
-        ensures { IfOk result (λ view. arc_value view ≡ flushed self.now.view self.now.next (compacted done.now)) }
+        requires made { entries_made done.now ≡ minor_compaction (rules_of self.now.view.config).minor (unwrap_or self.now.view.frozen []) }
+        ensures { IfOk result (λ view. arc_value view ≡ after_flush self.now.view self.now.next (entries_made done.now)) }
     {
         let view = self.view.install_flush(alloc, self.next, done)?;
         Ok(Arc::new(alloc, view)?)
@@ -64,7 +64,7 @@ impl Core {
     /// The file of a job stands in the place of the frozen part, whose minor compaction the job has to be.
     pub fn install_flush(&mut self, alloc: Global, done: &DoneJob) -> Answer
         requires version { self.old.view.version < 2 ^ 63 }
-        requires made { IfSome self.old.view.frozen (λ z. compacted done.now ≡ minor_compaction (rules_of self.old.view.config).minor z) }
+        requires made { IfSome self.old.view.frozen (λ z. entries_made done.now ≡ minor_compaction (rules_of self.old.view.config).minor z) }
         ensures { Answers model.flush self.old self.new (model_answer_of result) }
     {
         if let Some(refusal) = self.flush_refusal() {

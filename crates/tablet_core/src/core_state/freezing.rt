@@ -4,7 +4,7 @@ ghost use Rattle.std.specs.Arc.{arc_value};
 ghost use Rattle.tablet_model.specs.Steps as model;
 ghost use Rattle.tablet_model.specs.Steps.{refuse};
 ghost use Rattle.iter_config.specs.RulesOf.{rules_of};
-ghost use Rattle.tablet_view.specs.Snapshot.{frozen};
+ghost use Rattle.tablet_view.specs.Snapshot.{after_freeze};
 ghost use Rattle.tablet_steps.specs.ModelSteps.{model_answer_of};
 ghost use Rattle.tablet_core.specs.State.{Answers, IsRefusal, state_of};
 
@@ -32,7 +32,7 @@ impl Core {
     fn frozen(&self, alloc: Global) -> Result<Arc<View>, NoMemory>
         requires version { self.now.view.version < 2 ^ 63 }
         requires free { self.now.view.frozen ≡ None }
-        ensures { IfOk result (λ view. arc_value view ≡ frozen self.now.view) }
+        ensures { IfOk result (λ view. arc_value view ≡ after_freeze self.now.view) }
     {
         Ok(Arc::new(alloc, self.view.freeze(alloc)?)?)
     }

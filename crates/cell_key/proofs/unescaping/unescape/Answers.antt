@@ -1,6 +1,6 @@
 use Rattle.std.proofs.Common.{◌≡◌, ◌+◌, ◌++◌, Some, arith, drop, take, length, length-drop, sym, ◌∙◌, ap}
 use Rattle.std.proofs.lemmas.List.{take_rest}
-use Rattle.cell_key.specs.Escape.{spelled, unescape_from, unescape_of}
+use Rattle.cell_key.specs.Escape.{first_spelling, unescape_from, unescape_of}
 use Rattle.cell_key.proofs.Runs.{first_run, run_more}
 use Rattle.cell_key.proofs.Spelling.{put_all, spelled_within, unescape_more}
 use Rattle.cell_key.proofs.unescaping.unescape.Goals as goal
@@ -15,7 +15,7 @@ loop-at-init c = record {
 pub loop-at-preserved : goal.loop-at-preserved
 loop-at-preserved c =
     let text = c.args.text.now in
-    let e : spelled (drop c.loop-at.at c.args.text.now) ≡ Some (c.in-Some.byte, c.in-Some.more) = ap spelled (sym (take_rest text c.loop-at.at)) ∙ sym c.in-Some.ensures in
+    let e : first_spelling (drop c.loop-at.at c.args.text.now) ≡ Some (c.in-Some.byte, c.in-Some.more) = ap first_spelling (sym (take_rest text c.loop-at.at)) ∙ sym c.in-Some.ensures in
     let w = spelled_within (drop c.loop-at.at text) c.in-Some.byte c.in-Some.more e in
     let at = c.loop-at.at + (1 + c.in-Some.more) in
     record {

@@ -1,5 +1,5 @@
 use Rattle.std.proofs.Common.{◌≡◌, ◌++◌, length}
-use Rattle.scan_session.specs.Takes.{mode_of, taken}
+use Rattle.scan_session.specs.Takes.{mode_of, take_together}
 use Rattle.scan_session.proofs.Running.{taken_with}
 use Rattle.scan_session.proofs.run.take_run.Given as goal
 
@@ -8,7 +8,7 @@ invariant-loop-next g l =
     let source = g.S.SortedSource in
     record {
       valid : source.valid l.source;
-      taken : taken_with (mode_of l.isolated) l.count l.run (source.rest l.source) ≡ taken (mode_of l.isolated) l.count (source.rest l.fn.source);
+      taken : taken_with (mode_of l.isolated) l.count l.run (source.rest l.source) ≡ take_together (mode_of l.isolated) l.count (source.rest l.fn.source);
       left : source.rest l.fn.source ≡ l.run ++ source.rest l.source;
     }
 

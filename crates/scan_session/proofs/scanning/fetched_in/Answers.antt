@@ -4,21 +4,21 @@ use Rattle.tablet_model.specs.Cuts.{within}
 use Rattle.tablet_model.specs.Places.{Place}
 use Rattle.cell_key.specs.Ranges.{span_of}
 use Rattle.scan_session.specs.Runs.{place_behind}
-use Rattle.scan_session.specs.Takes.{mode_of, moved, taken}
-use Rattle.scan_session.specs.Walks.{fetched, end_of}
+use Rattle.scan_session.specs.Takes.{mode_of, place_after, take_together}
+use Rattle.scan_session.specs.Walks.{fetch_pieces, end_of}
 use Rattle.scan_session.proofs.scanning.fetched_in.Goals as goal
 
 pub returns-clause-pieces : goal.returns-clause-pieces
 returns-clause-pieces g c =
     let part = span_of c.args.range.now in
-    subst (λ (l : List Cell). IfOk c.fetched_from.result (λ given. given.0.pieces ≡ fetched (mode_of c.args.isolated) c.args.count c.args.n (within part l))) c.in_ok-stack.ensures.same_cells c.fetched_from.ensures.pieces
+    subst (λ (l : List Cell). IfOk c.fetched_from.result (λ given. given.0.pieces ≡ fetch_pieces (mode_of c.args.isolated) c.args.count c.args.n (within part l))) c.in_ok-stack.ensures.same_cells c.fetched_from.ensures.pieces
 
 pub returns-clause-place : goal.returns-clause-place
 returns-clause-place g c =
     let part = span_of c.args.range.now in
-    subst (λ (l : List Cell). IfOk c.fetched_from.result (λ given. (old : Place) → place_behind given.1 old ≡ moved (mode_of c.args.isolated) old (taken (mode_of c.args.isolated) c.args.count (within part l)))) c.in_ok-stack.ensures.same_cells c.fetched_from.ensures.place
+    subst (λ (l : List Cell). IfOk c.fetched_from.result (λ given. (old : Place) → place_behind given.1 old ≡ place_after (mode_of c.args.isolated) old (take_together (mode_of c.args.isolated) c.args.count (within part l)))) c.in_ok-stack.ensures.same_cells c.fetched_from.ensures.place
 
 pub returns-clause-ended : goal.returns-clause-ended
 returns-clause-ended g c =
     let part = span_of c.args.range.now in
-    subst (λ (l : List Cell). IfOk c.fetched_from.result (λ given. (left : List Cell) → within part l ≡ taken (mode_of c.args.isolated) c.args.count (within part l) ++ left → given.0.ended ≡ end_of c.args.n left)) c.in_ok-stack.ensures.same_cells c.fetched_from.ensures.ended
+    subst (λ (l : List Cell). IfOk c.fetched_from.result (λ given. (left : List Cell) → within part l ≡ take_together (mode_of c.args.isolated) c.args.count (within part l) ++ left → given.0.ended ≡ end_of c.args.n left)) c.in_ok-stack.ensures.same_cells c.fetched_from.ensures.ended

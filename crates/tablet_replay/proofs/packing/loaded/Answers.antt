@@ -42,5 +42,5 @@ loop-line-preserved c =
           ∙ ap (history_behind c.args.config old.log) (sym c.in-Some.ensures.steps)
           ∙ c.loop-line.invariant.log;
       memory = c.in_ok-take_line.ensures.memory;
-      few = omega (arith, c.loop-line.invariant.few, ap length c.in-Some.ensures.steps, c.in_ok-take_line.ensures.slow);
+      few = omega (arith, c.loop-line.invariant.few, ap length c.in-Some.ensures.steps, c.in_ok-take_line.ensures.version_rises_by_one_at_most);
     }

@@ -10,5 +10,5 @@ returns c =
       config = s.config;
       log = log_behind c.args.core.now c.step.new.self m s;
       memory = memory_behind c.args.core.now c.step.new.self m s c.requires.memory;
-      slow = s.slow;
+      version_rises_by_one_at_most = s.version_rises_by_one_at_most;
     }

@@ -33,7 +33,7 @@ loop-line-preserved g c =
           (sink.taken c.args.output.now) (sink.taken c.loop-line.output) (sink.taken c.send_answer.new.output)
           (subst (λ lines. IsSent whole (sink.taken c.args.output.now) (sink.taken c.loop-line.output) (c.loop-line.text ++ script_answers t lines)) c.in-Some.ensures.steps c.loop-line.invariant.sent)
           c.in_ok-send_answer.ensures.bytes);
-      few = omega (arith, c.loop-line.invariant.few, ap length c.in-Some.ensures.steps, c.in_ok-send_answer.ensures.slow);
+      few = omega (arith, c.loop-line.invariant.few, ap length c.in-Some.ensures.steps, c.in_ok-send_answer.ensures.version_rises_by_one_at_most);
       count = omega (arith, c.loop-line.invariant.count, c.in_ok-send_answer.ensures.cause);
     }
 

@@ -1,12 +1,12 @@
 use Rattle.std.proofs.Common.{◌∷◌, ◌++◌, [], map, sym, ap, ◌∙◌}
 use Rattle.std.proofs.lemmas.List.{map-append}
-use Rattle.tablet_model.specs.Store.{has_id, unnamed}
+use Rattle.tablet_model.specs.Store.{has_id, files_without}
 use Rattle.tablet_view.specs.FileParts.{file_of}
 use Rattle.tablet_view.proofs.OtherFiles.{unnamed_skips, unnamed_takes}
 use Rattle.tablet_view.proofs.files.other_files.Goals as goal
 
 pub loop-stored-init : goal.loop-stored-init
-unfolding unnamed
+unfolding files_without
 loop-stored-init c = ap (map file_of) c.new-others.ensures.items
 
 pub loop-stored-preserved : goal.loop-stored-preserved

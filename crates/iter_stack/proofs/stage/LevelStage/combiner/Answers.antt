@@ -1,6 +1,6 @@
 use Rattle.std.proofs.Common.{rules, false, sym, ap, ◌∙◌, subst}
 use Rattle.std.specs.Prelude.{if◌then◌else◌, ⊤}
-use Rattle.tablet_model.specs.Combines.{combined}
+use Rattle.tablet_model.specs.Combines.{combine_columns}
 use Rattle.cell_key.specs.Listed.{column_listed}
 use Rattle.number_values.specs.Values.{reduction_of}
 use Rattle.number_values.specs.declared.op.Op.{Op}
@@ -23,6 +23,6 @@ returns-in_ok-stage-in-ArraySum c =
     let made = c.in_ok-stage-in-ArraySum.ensures in
     let stage = c.in_ok-stage-in-ArraySum.stage in
     let columns = c.args.columns.now in
-    subst (λ (o : Op). IsFresh (combined (column_listed columns) (reduction_of o c.args.encoding)) (λ source. if is_of_arrays o then false else source) (AreCombinable columns (reduction_of o c.args.encoding)) (λ count. ⊤) (level.CombineArrays stage))
+    subst (λ (o : Op). IsFresh (combine_columns (column_listed columns) (reduction_of o c.args.encoding)) (λ source. if is_of_arrays o then false else source) (AreCombinable columns (reduction_of o c.args.encoding)) (λ count. ⊤) (level.CombineArrays stage))
     (sym c.in-ArraySum.is)
     (fresh_sums columns c.args.encoding stage (search rules) (ap array_reducer_reduction made.reducer ∙ c.in_ok-reducer-in-ArraySum.ensures.reduction) made.unsought)

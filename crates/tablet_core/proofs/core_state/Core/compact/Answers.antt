@@ -1,6 +1,6 @@
 use Rattle.std.proofs.Common.{◌≡◌, Some, sym, ap, subst, ◌∙◌}
 use Rattle.tablet_model.specs.Steps as model
-use Rattle.tablet_model.specs.Steps.{StepAnswer, find_job, first_missing, first_taken, ids_of, is_empty, takes_all}
+use Rattle.tablet_model.specs.Steps.{takes_all}
 use Rattle.tablet_steps.specs.ModelSteps.{model_refusal_of}
 use Rattle.tablet_core.specs.State.{Answers, CoreState}
 use Rattle.tablet_core.proofs.Moves.{made, unmade}

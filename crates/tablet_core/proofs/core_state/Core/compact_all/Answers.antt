@@ -1,7 +1,7 @@
 use Rattle.std.proofs.Common.{Some, ℕ, List, sym, ap, subst, ◌∙◌}
 use Rattle.tablet_model.specs.Stands.{AreRising}
 use Rattle.tablet_model.specs.Steps as model
-use Rattle.tablet_model.specs.Steps.{StepAnswer, find_job, first_missing, first_taken, ids_of, is_empty, takes_all}
+use Rattle.tablet_model.specs.Steps.{ids_of}
 use Rattle.tablet_view.specs.Snapshot.{store_of}
 use Rattle.tablet_steps.specs.ModelSteps.{model_answer_of, model_refusal_of}
 use Rattle.tablet_core.specs.State.{Answers}

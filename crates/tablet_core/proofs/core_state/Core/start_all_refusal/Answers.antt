@@ -1,6 +1,6 @@
 use Rattle.std.proofs.Common.{true, false, length, is_some, Some, None, refl, sym, ap, ◌∙◌}
 use Rattle.tablet_model.specs.Steps as model
-use Rattle.tablet_model.specs.Steps.{StepAnswer, find_job, first_missing, first_taken, ids_of, is_empty, takes_all}
+use Rattle.tablet_model.specs.Steps.{find_job, first_missing, first_taken, ids_of, is_empty}
 use Rattle.tablet_core.proofs.Starts.{all_reason, all_there, ids_empty, mapped_some, no_length, some_length, start_reason}
 use Rattle.tablet_core.proofs.core_state.Core.start_all_refusal.Goals as goal
 

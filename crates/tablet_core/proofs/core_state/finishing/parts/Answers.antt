@@ -1,6 +1,6 @@
 use Rattle.std.proofs.Common.{◌≡◌, ◌++◌, ◌∷◌, [], true, false, map, Some, option_map, sym, ap, ◌∙◌, arith, append-nil}
 use Rattle.std.proofs.lemmas.List.{map-append}
-use Rattle.tablet_model.specs.Store.{has_id, named}
+use Rattle.tablet_model.specs.Store.{has_id, files_with}
 use Rattle.compactor.specs.PartCells.{part_cells}
 use Rattle.tablet_core.proofs.FilesAt.{FileAt, file_at}
 use Rattle.tablet_core.proofs.Finishes.{parts_at}
@@ -8,7 +8,7 @@ use Rattle.tablet_core.proofs.core_state.finishing.parts.Goals.{then-has+in_ok-f
 use Rattle.tablet_core.proofs.core_state.finishing.parts.Goals as goal
 
 pub loop-i-init : goal.loop-i-init
-unfolding named
+unfolding files_with
 loop-i-init c = ap (λ l. map part_cells l) c.new-parts.ensures.items
 
 pub loop-i-preserved : goal.loop-i-preserved
