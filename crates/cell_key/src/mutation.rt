@@ -5,12 +5,13 @@ use crate::items::{ByteText, Items};
 use crate::no_memory::NoMemory;
 use std::alloc::Global;
 
-/// A change of one column: a put of a value, or a delete, which has no value.
+/// A change of one column: a put of a value, maybe at a time of its own, or a delete, which has no value.
 #[derive(Drop)]
 pub struct Update {
     pub family: ByteText,
     pub qualifier: ByteText,
     pub visibility: ByteText,
+    pub time: Option<i64>,
     pub value: Option<ByteText>,
 }
 
@@ -27,6 +28,7 @@ impl Update {
             family: ByteText::of(alloc, self.family.bytes())?,
             qualifier: ByteText::of(alloc, self.qualifier.bytes())?,
             visibility: ByteText::of(alloc, self.visibility.bytes())?,
+            time: self.time,
             value,
         })
     }
@@ -48,6 +50,7 @@ impl Update {
         self.family.bytes() == other.family.bytes()
             && self.qualifier.bytes() == other.qualifier.bytes()
             && self.visibility.bytes() == other.visibility.bytes()
+            && self.time == other.time
             && self.has_value_of(other)
     }
 }
