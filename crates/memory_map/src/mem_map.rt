@@ -49,7 +49,7 @@ impl MemMap {
         })
     }
 
-    /// A map that has also the entries of a mutation, each at this time. It takes memory.
+    /// A map that has also the entries of a mutation, each at its own time or else at this one. It takes memory.
     pub fn insert(&self, alloc: Global, mutation: &Mutation, time: i64) -> Result<MemMap, NoMemory>
         requires { out_of_bounds (row_change_of mutation.now) ≡ None }
         ensures { IfOk result (λ map. map ≡ sum_of self.now (entries_of time (row_change_of mutation.now))) }

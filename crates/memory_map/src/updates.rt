@@ -9,7 +9,7 @@ ghost use Rattle.cell_key.specs.Views.{cell_of};
 use cell_key::{Entries, Entry, EntryRef, KeyRef, Mutation, NoMemory, Update};
 use std::alloc::Global;
 
-/// The entries of a mutation at a time, update by update. It takes memory.
+/// The entries of a mutation at a time, update by update; a put with a time of its own keeps that. It takes memory.
 pub fn mutation_entries(alloc: Global, mutation: &Mutation, time: i64) -> Result<Entries, NoMemory>
     requires { out_of_bounds (row_change_of mutation.now) ≡ None }
     ensures { IfOk result (λ entries. entries ≡ entries_of time (row_change_of mutation.now)) }
@@ -36,7 +36,7 @@ fn append_mutation(
     Ok(())
 }
 
-/// The entry of an update at a time. A delete gives a marker, whose value is empty.
+/// The entry of an update, at its own time or else at this one. A delete gives a marker, whose value is empty.
 fn entry_of<'a>(row: &'a [u8], time: i64, update: &'a Update) -> EntryRef<'a>
     requires { KeyBounds row.now update.now.family update.now.qualifier update.now.visibility }
     ensures { cell_of result ≡ entry_of row.now time (change_of update.now) }
@@ -51,7 +51,7 @@ fn entry_of<'a>(row: &'a [u8], time: i64, update: &'a Update) -> EntryRef<'a>
             family: update.family.bytes(),
             qualifier: update.qualifier.bytes(),
             visibility: update.visibility.bytes(),
-            time,
+            time: update.time.unwrap_or(time),
             deleted,
         },
         value,
