@@ -38,7 +38,7 @@ impl<S: SortedSource, R: Reducer> CombineIter<S, R> {
         requires read { AreRead (arc_value columns) (R.reduction reducer) (S.cells source) }
         requires in_front { AreInFront (column_listed (arc_value columns)) [] (S.cells source) }
         ensures { IfOk result (λ it. IsCopy
-            (combined (column_listed (arc_value columns)) (R.reduction reducer) (S.cells source))
+            (combine_columns (column_listed (arc_value columns)) (R.reduction reducer) (S.cells source))
             (S.steady source && R.steady reducer)
             (combine_cells_of S.cells R.reduction it) (combine_rest S.rest R.reduction R.joined it)
             (combine_steady_of S.steady R.steady it)

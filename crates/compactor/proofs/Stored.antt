@@ -14,7 +14,8 @@ use Rattle.sorted_file.specs.Lists.{longest_value}
 use Rattle.iter_config.specs.Order.{IsConfig}
 use Rattle.iter_config.specs.Rules.{in_base, is_combiner}
 use Rattle.iter_config.specs.RulesOf.{rules_of, scans_alone}
-use Rattle.iter_config.specs.Stages.{stages_of}
+use Rattle.iter_config.specs.Settings.{Settings}
+use Rattle.iter_config.specs.Stages.{stage_list, stages_of}
 use Rattle.iter_config.specs.declared.iter_spec.IterSpec.{IterSpec}
 use Rattle.iter_config.proofs.Soundness.{sound}
 use Rattle.compactor.specs.FileValues.{HasShortValue}
@@ -26,30 +27,30 @@ use Rattle.iter_stack.proofs.Taken.{plain_reads}
 -- ---- what is read
 
 -- what the iterators of compactions and the other combiners read, all iterators do
-pub all_read_by : (e : Cell) (specs : List IterSpec) → AllByRecursion (IsReadBy e) (stages_of (filter in_base specs))
-    → AllByRecursion (IsReadBy e) (stages_of (filter (λ s. is_combiner s.kind) (scans_alone specs))) → AllByRecursion (IsReadBy e) (stages_of specs)
+pub all_read_by : (e : Cell) (specs : List IterSpec) → AllByRecursion (IsReadBy e) (stage_list (filter in_base specs))
+    → AllByRecursion (IsReadBy e) (stage_list (filter (λ s. is_combiner s.kind) (scans_alone specs))) → AllByRecursion (IsReadBy e) (stage_list specs)
 all_read_by e [] b a = tt
 all_read_by e (s ∷ ss) b a = go (in_base s) b a (all_read_by e ss)
   where
-    go : (d : Bool) → AllByRecursion (IsReadBy e) (stages_of (cond d (s ∷ filter in_base ss) (filter in_base ss)))
-        → AllByRecursion (IsReadBy e) (stages_of (filter (λ t. is_combiner t.kind) (cond (not d) (s ∷ scans_alone ss) (scans_alone ss))))
-        → (AllByRecursion (IsReadBy e) (stages_of (filter in_base ss)) → AllByRecursion (IsReadBy e) (stages_of (filter (λ t. is_combiner t.kind) (scans_alone ss))) → AllByRecursion (IsReadBy e) (stages_of ss))
-        → AllByRecursion (IsReadBy e) (stages_of (s ∷ ss))
+    go : (d : Bool) → AllByRecursion (IsReadBy e) (stage_list (cond d (s ∷ filter in_base ss) (filter in_base ss)))
+        → AllByRecursion (IsReadBy e) (stage_list (filter (λ t. is_combiner t.kind) (cond (not d) (s ∷ scans_alone ss) (scans_alone ss))))
+        → (AllByRecursion (IsReadBy e) (stage_list (filter in_base ss)) → AllByRecursion (IsReadBy e) (stage_list (filter (λ t. is_combiner t.kind) (scans_alone ss))) → AllByRecursion (IsReadBy e) (stage_list ss))
+        → AllByRecursion (IsReadBy e) (stage_list (s ∷ ss))
     go true b a rest = (b.0, rest b.1 a)
     go false b a rest = at (is_combiner s.kind) refl a
       where
         at : (j : Bool) → is_combiner s.kind ≡ j
-            → AllByRecursion (IsReadBy e) (stages_of (cond j (s ∷ filter (λ t. is_combiner t.kind) (scans_alone ss)) (filter (λ t. is_combiner t.kind) (scans_alone ss))))
-            → AllByRecursion (IsReadBy e) (stages_of (s ∷ ss))
+            → AllByRecursion (IsReadBy e) (stage_list (cond j (s ∷ filter (λ t. is_combiner t.kind) (scans_alone ss)) (filter (λ t. is_combiner t.kind) (scans_alone ss))))
+            → AllByRecursion (IsReadBy e) (stage_list (s ∷ ss))
         at true is a = (a.0, rest b a.1)
         at false is a = (plain_reads e s.kind is, rest b a)
 
-one_read : (specs : List IterSpec) (e : Cell) → IsStorable (rules_of specs) e → e.key.deleted ≡ false → AllByRecursion (IsReadBy e) (stages_of specs)
+one_read : (c : Settings) (e : Cell) → IsStorable (rules_of c) e → e.key.deleted ≡ false → AllByRecursion (IsReadBy e) (stages_of c)
 unfolding rules_of
-one_read specs e k d = all_read_by e specs (k.reads d) (k.reads_scan d)
+one_read c e k d = all_read_by e c.iterators (k.reads d) (k.reads_scan d)
 
-pub storable_read : (specs : List IterSpec) (list : List Cell) → AreStorable (rules_of specs) list → AreUnmarkedRead (stages_of specs) list
-storable_read specs list h = all_weaker (IsStorable (rules_of specs)) (λ e. e.key.deleted ≡ false → AllByRecursion (IsReadBy e) (stages_of specs)) (one_read specs) list h
+pub storable_read : (c : Settings) (list : List Cell) → AreStorable (rules_of c) list → AreUnmarkedRead (stages_of c) list
+storable_read c list h = all_weaker (IsStorable (rules_of c)) (λ e. e.key.deleted ≡ false → AllByRecursion (IsReadBy e) (stages_of c)) (one_read c) list h
 
 -- ---- what a file takes
 
@@ -61,30 +62,30 @@ short_value c e k = go e.key.deleted k.no_value
     go false none = k.short
 
 -- what a compaction makes may be in a store
-usage_storable : (specs : List IterSpec) → IsConfig specs → (usage : Usage) → ¬ (usage ≡ Scan) → (list : List Cell) → AreStorable (rules_of specs) list
-    → AreStorable (rules_of specs) (usage_cells specs usage list)
+usage_storable : (c : Settings) → IsConfig c → (usage : Usage) → ¬ (usage ≡ Scan) → (list : List Cell) → AreStorable (rules_of c) list
+    → AreStorable (rules_of c) (usage_cells c usage list)
 unfolding usage_cells
-usage_storable specs config Scan compacts list h = absurd (compacts refl)
-usage_storable specs config Minc compacts list h =
-    let rules = rules_of specs in
-    let law = sound specs config in
+usage_storable c config Scan compacts list h = absurd (compacts refl)
+usage_storable c config Minc compacts list h =
+    let rules = rules_of c in
+    let law = sound c config in
     keeps_stages rules rules.minor (keeps_first rules law rules.minor law.minor_first) (mark list) (keeps_mark rules list h)
-usage_storable specs config MajcPart compacts list h =
-    let rules = rules_of specs in
-    let law = sound specs config in
+usage_storable c config MajcPart compacts list h =
+    let rules = rules_of c in
+    let law = sound c config in
     keeps_stages rules (partial_stages rules.major) (all_partial (IsKeeping rules) rules.major (keeps_first rules law rules.major law.major_first)) (mark list) (keeps_mark rules list h)
-usage_storable specs config MajcFull compacts list h =
-    let rules = rules_of specs in
-    let law = sound specs config in
+usage_storable c config MajcFull compacts list h =
+    let rules = rules_of c in
+    let law = sound c config in
     keeps_stages rules rules.major (keeps_first rules law rules.major law.major_first) (live list) (keeps_live rules list h)
-usage_storable specs config Pack compacts list h =
-    let rules = rules_of specs in
-    let law = sound specs config in
+usage_storable c config Pack compacts list h =
+    let rules = rules_of c in
+    let law = sound c config in
     keeps_stages rules rules.base (keeps_first rules law rules.base ([], append-nil rules.base)) (live list) (keeps_live rules list h)
 
 -- so a file takes it
-pub usage_short : (specs : List IterSpec) → IsConfig specs → (usage : Usage) → ¬ (usage ≡ Scan) → (list : List Cell) → AreStorable (rules_of specs) list
-    → AllByRecursion HasShortValue (usage_cells specs usage list)
-usage_short specs config usage compacts list h =
-    let rules = rules_of specs in
-    all_weaker (IsStorable rules) HasShortValue (short_value rules) (usage_cells specs usage list) (usage_storable specs config usage compacts list h)
+pub usage_short : (c : Settings) → IsConfig c → (usage : Usage) → ¬ (usage ≡ Scan) → (list : List Cell) → AreStorable (rules_of c) list
+    → AllByRecursion HasShortValue (usage_cells c usage list)
+usage_short c config usage compacts list h =
+    let rules = rules_of c in
+    all_weaker (IsStorable rules) HasShortValue (short_value rules) (usage_cells c usage list) (usage_storable c config usage compacts list h)

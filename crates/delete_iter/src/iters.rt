@@ -37,7 +37,7 @@ pub fn live_iter<S: SortedSource>(alloc: Global, source: S) -> Result<LiveIter<S
 pub fn mark_iter<S: SortedSource>(alloc: Global, source: S) -> Result<MarkIter<S>, NoMemory>
     requires { S.valid source }
     ensures { IfOk result (λ it. IsCopy (mark (S.cells source)) (S.steady source)
-        (staged_cells S.cells mark_made it) (staged_rest S.rest keeps passed it)
+        (staged_cells S.cells mark_made it) (staged_rest S.rest keeps after_entry it)
         (staged_steady S.steady it) (staged_valid S.valid it)) }
 {
     Ok(Staged::new(source, MarkStage::new(alloc)?))

@@ -4,7 +4,7 @@ ghost use Rattle.std.specs.Arc.{arc_value};
 ghost use Rattle.filters.specs.FilterStages.{test_of};
 ghost use Rattle.iter_config.specs.Predicates.{keeps};
 
-use crate::matching::holds;
+use crate::matching::matches;
 use cell_key::{EntryRef, NoMemory};
 use iter_config::Predicate;
 use stages::Stage;
@@ -49,7 +49,7 @@ impl Stage for FilterStage {
 
     #[tactic(auto, unfolding(iter_config::specs::Predicates::keeps))]
     fn take(&mut self, entry: EntryRef<'_>) -> bool {
-        entry.key.deleted || holds(&self.predicate, entry) != self.negate
+        entry.key.deleted || matches(&self.predicate, entry) != self.negate
     }
 
     fn restart(&mut self) {}

@@ -7,4 +7,4 @@ mod matching;
 
 pub use filter_stage::FilterStage;
 pub use iter::{FilterIter, filter_iter};
-pub use matching::holds;
+pub use matching::matches;

@@ -10,7 +10,7 @@ use Rattle.cell_key.specs.Mutations.{change_of, row_change_of}
 use Rattle.cell_key.specs.declared.mutation.Update.{Update}
 use Rattle.cell_key.specs.declared.mutation.Mutation.{Mutation}
 use Rattle.iter_config.specs.RulesOf.{rules_of}
-use Rattle.iter_config.specs.declared.iter_spec.IterSpec.{IterSpec}
+use Rattle.iter_config.specs.Settings.{Settings}
 use Rattle.iter_config.proofs.Checking.{mistimed, refused_delete, unread}
 use Rattle.ingest.specs.Checks.{first_broken, is_refused_delete, is_unread}
 use Rattle.ingest.proofs.Finding.{first_agrees, first_nowhere}
@@ -24,12 +24,12 @@ all_updates P h [] = tt
 all_updates P h (u ∷ us) = (h u, all_updates P h us)
 
 -- no update has a time of its own
-untimed : (specs : List IterSpec) (k : ℕ) (m : Mutation) → first_where (is_mistimed (rules_of specs) k (row_change_of m)) 1 (map change_of m.updates) ≡ None
+untimed : (specs : Settings) (k : ℕ) (m : Mutation) → first_where (is_mistimed (rules_of specs) k (row_change_of m)) 1 (map change_of m.updates) ≡ None
 untimed specs k m =
     first_nowhere (is_mistimed (rules_of specs) k (row_change_of m)) 1 (map change_of m.updates)
     (all_updates (λ u. is_mistimed (rules_of specs) k (row_change_of m) u ≡ false) (λ u. mistimed specs k (row_change_of m) (change_of u) refl) m.updates)
 
-pub ingest_is : (specs : List IterSpec) (n : ℕ) (m : Mutation) → first_broken specs n (row_change_of m) ≡ ingest (rules_of specs) n (row_change_of m)
+pub ingest_is : (specs : Settings) (n : ℕ) (m : Mutation) → first_broken specs n (row_change_of m) ≡ ingest (rules_of specs) n (row_change_of m)
 unfolding ingest
 ingest_is specs n m =
     let r : RowChange = row_change_of m in

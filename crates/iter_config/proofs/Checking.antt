@@ -1,5 +1,5 @@
 -- The checks of mutations under the rules of a configuration.
-use Rattle.std.proofs.Common.{◌≡◌, ℕ, ℤ, Bool, true, false, not, ◌&&◌, ◌||◌, cond, List, [], ◌∷◌, Option, Some, None, is_some, unwrap_or, refl, sym, ap, ◌∙◌}
+use Rattle.std.proofs.Common.{◌≡◌, ℕ, Bool, true, false, not, ◌&&◌, ◌||◌, cond, List, [], ◌∷◌, is_some, unwrap_or, refl, sym, ap, ◌∙◌}
 use Rattle.std.proofs.Math.Bool.{and_assoc, not-not}
 use Rattle.std.specs.Prelude.{pos, filter}
 use Rattle.tablet_model.specs.Cell.{Cell}
@@ -7,28 +7,26 @@ use Rattle.tablet_model.specs.History.{Change, RowChange, entry_of, is_delete}
 use Rattle.tablet_model.specs.Ingest.{is_mistimed, is_read, is_refused_delete, is_unread}
 use Rattle.tablet_model.specs.Stages.{Stage}
 use Rattle.cell_key.specs.Listed.{column_listed}
-use Rattle.iter_config.specs.Columns.{kind_reads, reads_value, refuses_delete}
+use Rattle.iter_config.specs.Columns.{all_read, is_timed, kind_reads, reads_value, refuses_delete}
 use Rattle.iter_config.specs.Rules.{in_base, is_combiner}
 use Rattle.iter_config.specs.RulesOf.{rules_of, scans_alone}
-use Rattle.iter_config.specs.Stages.{stage_of, stages_of}
+use Rattle.iter_config.specs.Settings.{Settings}
+use Rattle.iter_config.specs.Stages.{stage_list, stage_of}
 use Rattle.iter_config.specs.declared.iter_spec.IterSpec.{IterSpec}
 use Rattle.iter_config.specs.declared.iter_spec.Kind.{Kind}
 use Rattle.iter_config.specs.declared.iter_spec.Kind.TheVariants.{Filter, Versions, Combine, WholeRow, Intersecting}
 use Rattle.iter_config.proofs.FilterStages.{filter_is}
 
-pub refused_delete : (specs : List IterSpec) (k : ℕ) (m : RowChange) (u : Change)
-    → is_refused_delete (rules_of specs) k m u ≡ (is_delete u.value && refuses_delete specs u.family u.qualifier)
+pub refused_delete : (c : Settings) (k : ℕ) (m : RowChange) (u : Change)
+    → is_refused_delete (rules_of c) k m u ≡ (is_delete u.value && refuses_delete c u.family u.qualifier)
 unfolding is_refused_delete rules_of
-refused_delete specs k m u = ap (λ b. is_delete u.value && b) (not-not (refuses_delete specs u.family u.qualifier))
+refused_delete c k m u = ap (λ b. is_delete u.value && b) (not-not (refuses_delete c u.family u.qualifier))
 
-untimed : (time : Option ℤ) (value : Option (List ℕ)) → time ≡ None → (is_some time && (is_delete value || true) || not (is_some time) && (is_some value && false)) ≡ false
-untimed None None h = refl
-untimed None (Some value) h = refl
-untimed (Some time) value h = absurd (let k : Some time ≡ None = h in cc)
-
-pub mistimed : (specs : List IterSpec) (k : ℕ) (m : RowChange) (u : Change) → u.time ≡ None → is_mistimed (rules_of specs) k m u ≡ false
+pub mistimed : (c : Settings) (k : ℕ) (m : RowChange) (u : Change)
+    → is_mistimed (rules_of c) k m u ≡ (is_some u.time && (is_delete u.value || not (is_timed c u.family)) || not (is_some u.time) && (is_some u.value && is_timed c u.family))
 unfolding is_mistimed rules_of
-mistimed specs k m u none = untimed u.time u.value none
+mistimed c k m u =
+    ap (λ b. is_some u.time && (is_delete u.value || not (is_timed c u.family)) || not (is_some u.time) && (is_some u.value && b)) (not-not (is_timed c u.family))
 
 -- a stage in front reads what its iterator reads: a combiner the values of its columns, any other one all
 front_reads : (e : Cell) (kind : Kind) (ss : List Stage) → is_read (stage_of kind ∷ ss) e ≡ (kind_reads e.key.family e.key.qualifier e.value kind && is_read ss e)
@@ -53,26 +51,26 @@ and_swap false true c = refl
 and_swap false false c = refl
 
 -- the stages of compactions and the other combiners read what the configuration reads
-pub all_read : (e : Cell) (specs : List IterSpec)
-    → (is_read (stages_of (filter in_base specs)) e && is_read (stages_of (filter (λ s. is_combiner s.kind) (scans_alone specs))) e) ≡ reads_value specs e.key.family e.key.qualifier e.value
-unfolding is_read reads_value
-all_read e [] = refl
-all_read e (s ∷ ss) =
+pub read_by_all : (e : Cell) (specs : List IterSpec)
+    → (is_read (stage_list (filter in_base specs)) e && is_read (stage_list (filter (λ s. is_combiner s.kind) (scans_alone specs))) e) ≡ all_read specs e.key.family e.key.qualifier e.value
+unfolding is_read all_read
+read_by_all e [] = refl
+read_by_all e (s ∷ ss) =
     let reads : Bool = kind_reads e.key.family e.key.qualifier e.value s.kind in
     let base : List IterSpec = filter in_base ss in
     let alone : List IterSpec = scans_alone ss in
     let later : List IterSpec = filter (λ t. is_combiner t.kind) alone in
-    let combiner : (c : Bool) → is_combiner s.kind ≡ c → is_read (stages_of (cond c (s ∷ later) later)) e ≡ (reads && is_read (stages_of later) e) = λ c. elim c as (λ c. is_combiner s.kind ≡ c → is_read (stages_of (cond c (s ∷ later) later)) e ≡ (reads && is_read (stages_of later) e)) [
-      | true ↦ λ h. front_reads e s.kind (stages_of later)
-      | false ↦ λ h. sym (ap (λ b. b && is_read (stages_of later) e) (others_read e.key.family e.key.qualifier e.value s.kind h))
+    let combiner : (c : Bool) → is_combiner s.kind ≡ c → is_read (stage_list (cond c (s ∷ later) later)) e ≡ (reads && is_read (stage_list later) e) = λ c. elim c as (λ c. is_combiner s.kind ≡ c → is_read (stage_list (cond c (s ∷ later) later)) e ≡ (reads && is_read (stage_list later) e)) [
+      | true ↦ λ h. front_reads e s.kind (stage_list later)
+      | false ↦ λ h. sym (ap (λ b. b && is_read (stage_list later) e) (others_read e.key.family e.key.qualifier e.value s.kind h))
     ] in
-    let go : (b : Bool) → (is_read (stages_of (cond b (s ∷ base) base)) e && is_read (stages_of (filter (λ t. is_combiner t.kind) (cond (not b) (s ∷ alone) alone))) e) ≡ (reads && (is_read (stages_of base) e && is_read (stages_of later) e)) = λ b. elim b as (λ b. (is_read (stages_of (cond b (s ∷ base) base)) e && is_read (stages_of (filter (λ t. is_combiner t.kind) (cond (not b) (s ∷ alone) alone))) e) ≡ (reads && (is_read (stages_of base) e && is_read (stages_of later) e))) [
-      | true ↦ ap (λ b. b && is_read (stages_of later) e) (front_reads e s.kind (stages_of base)) ∙ and_assoc reads (is_read (stages_of base) e) (is_read (stages_of later) e)
-      | false ↦ ap (λ b. is_read (stages_of base) e && b) (combiner (is_combiner s.kind) refl) ∙ and_swap (is_read (stages_of base) e) reads (is_read (stages_of later) e)
+    let go : (b : Bool) → (is_read (stage_list (cond b (s ∷ base) base)) e && is_read (stage_list (filter (λ t. is_combiner t.kind) (cond (not b) (s ∷ alone) alone))) e) ≡ (reads && (is_read (stage_list base) e && is_read (stage_list later) e)) = λ b. elim b as (λ b. (is_read (stage_list (cond b (s ∷ base) base)) e && is_read (stage_list (filter (λ t. is_combiner t.kind) (cond (not b) (s ∷ alone) alone))) e) ≡ (reads && (is_read (stage_list base) e && is_read (stage_list later) e))) [
+      | true ↦ ap (λ b. b && is_read (stage_list later) e) (front_reads e s.kind (stage_list base)) ∙ and_assoc reads (is_read (stage_list base) e) (is_read (stage_list later) e)
+      | false ↦ ap (λ b. is_read (stage_list base) e && b) (combiner (is_combiner s.kind) refl) ∙ and_swap (is_read (stage_list base) e) reads (is_read (stage_list later) e)
     ] in
-    go (in_base s) ∙ ap (λ b. reads && b) (all_read e ss)
+    go (in_base s) ∙ ap (λ b. reads && b) (read_by_all e ss)
 
-pub unread : (specs : List IterSpec) (k : ℕ) (m : RowChange) (u : Change)
-    → is_unread (rules_of specs) k m u ≡ (is_some u.value && not (reads_value specs u.family u.qualifier (unwrap_or u.value [])))
+pub unread : (c : Settings) (k : ℕ) (m : RowChange) (u : Change)
+    → is_unread (rules_of c) k m u ≡ (is_some u.value && not (reads_value c u.family u.qualifier (unwrap_or u.value [])))
 unfolding is_unread rules_of
-unread specs k m u = ap (λ b. is_some u.value && not b) (all_read (entry_of m.row (pos k) u) specs)
+unread c k m u = ap (λ b. is_some u.value && not b) (read_by_all (entry_of m.row (pos k) u) c.iterators)

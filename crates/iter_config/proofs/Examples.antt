@@ -3,6 +3,7 @@ use Rattle.std.proofs.Common.{◌≡◌, ℕ, true, false, List, [], ◌∷◌, 
 use Rattle.tablet_model.specs.Stages.{newest}
 use Rattle.iter_config.specs.Document.{config_of}
 use Rattle.iter_config.specs.Faults.{fault}
+use Rattle.iter_config.specs.Settings.{Settings}
 use Rattle.iter_config.specs.Stages.{stages_of}
 use Rattle.iter_config.specs.declared.iter_spec.IterSpec.{IterSpec}
 use Rattle.iter_config.specs.declared.iter_spec.Kind.TheVariants.{Versions}
@@ -21,21 +22,25 @@ vers = codes "[[iterator]]\nname = \"vers\"\npriority = 20\nkind = \"versions\"\
 first : List ℕ
 first = codes "[[iterator]]\nname = \"first\"\npriority = 3\nkind = \"versions\"\nmax = 1000\nscopes = [\"scan\"]\n"
 
-empty : config_of [] ≡ Ok []
-unfolding config_on_literals
+-- a configuration without timed families
+plain : List IterSpec → Settings
+plain specs = record { iterators = specs; timed = [] }
+
+empty : config_of [] ≡ Ok (plain [])
+unfolding config_on_literals plain
 empty = refl
 
-one : config_of vers ≡ Ok (versions (codes "vers") 20 1 ∷ [])
-unfolding config_on_literals versions vers
+one : config_of vers ≡ Ok (plain (versions (codes "vers") 20 1 ∷ []))
+unfolding config_on_literals plain versions vers
 one = refl
 
 -- the lower priority comes first
-two : config_of (vers ++ first) ≡ Ok (versions (codes "first") 3 1000 ∷ versions (codes "vers") 20 1 ∷ [])
-unfolding config_on_literals versions vers first
+two : config_of (vers ++ first) ≡ Ok (plain (versions (codes "first") 3 1000 ∷ versions (codes "vers") 20 1 ∷ []))
+unfolding config_on_literals plain versions vers first
 two = refl
 
-their_stages : stages_of (versions (codes "first") 3 1000 ∷ versions (codes "vers") 20 1 ∷ []) ≡ newest 1000 ∷ newest 1 ∷ []
-unfolding versions
+their_stages : stages_of (plain (versions (codes "first") 3 1000 ∷ versions (codes "vers") 20 1 ∷ [])) ≡ newest 1000 ∷ newest 1 ∷ []
+unfolding plain versions
 their_stages = refl
 
 no_document : config_of (codes "[[") ≡ Err (fault Toml 0)
@@ -45,6 +50,20 @@ no_document = refl
 other_key : config_of (codes "colour = 1") ≡ Err (fault Field 0)
 unfolding config_on_literals
 other_key = refl
+
+-- a family whose puts bring times of their own
+timed_family : config_of (codes "timed = [\"t\"]") ≡ Ok (record { iterators = []; timed = codes "t" ∷ [] })
+unfolding config_on_literals
+timed_family = refl
+
+no_names : config_of (codes "timed = 1") ≡ Err (fault Field 0)
+unfolding config_on_literals
+no_names = refl
+
+-- the document's own fault comes before that of an iterator
+document_first : config_of (codes "timed = []\n[[iterator]]\nname = \"vers\"\npriority = 20\nkind = \"versions\"\nmax = 0\nscopes = [\"scan\"]\n") ≡ Err (fault Field 0)
+unfolding config_on_literals
+document_first = refl
 
 no_versions : config_of (codes "[[iterator]]\nname = \"vers\"\npriority = 20\nkind = \"versions\"\nmax = 0\nscopes = [\"scan\"]\n") ≡ Err (fault Field 1)
 unfolding config_on_literals

@@ -18,7 +18,7 @@ use Rattle.iter_config.specs.Order.{NoneClashes}
 use Rattle.iter_config.specs.Predicates.{filter_stage, is_from, is_of_column, is_up_to, keeps}
 use Rattle.iter_config.specs.Rules.{in_base, is_combiner, is_disordered, is_scan_only, leaves_scans, listed_columns, names_meet, out_of_order, shares_column}
 use Rattle.iter_config.specs.RulesOf.{scans_alone}
-use Rattle.iter_config.specs.Stages.{stage_of, stages_of}
+use Rattle.iter_config.specs.Stages.{stage_of, stage_list}
 use Rattle.iter_config.specs.declared.iter_spec.IterSpec.{IterSpec}
 use Rattle.iter_config.specs.declared.iter_spec.Kind.{Kind}
 use Rattle.iter_config.specs.declared.iter_spec.Kind.TheVariants.{Filter, Versions, Combine, WholeRow, Intersecting}
@@ -99,7 +99,7 @@ allows WholeRow l only other h apart = absurd (let t : true ≡ false = only in 
 allows (Intersecting terms without) l only other h apart = absurd (let t : true ≡ false = only in cc)
 
 -- what holds of iterators holds of their stages
-pub stages_all : (P : Stage → Type 0) (Q : IterSpec → Type 0) → ((s : IterSpec) → Q s → P (stage_of s.kind)) → (ss : List IterSpec) → AllByRecursion Q ss → AllByRecursion P (stages_of ss)
+pub stages_all : (P : Stage → Type 0) (Q : IterSpec → Type 0) → ((s : IterSpec) → Q s → P (stage_of s.kind)) → (ss : List IterSpec) → AllByRecursion Q ss → AllByRecursion P (stage_list ss)
 stages_all P Q f [] h = tt
 stages_all P Q f (s ∷ ss) h = (f s h.0, stages_all P Q f ss h.1)
 
@@ -111,26 +111,26 @@ in_compactions s h base = go (is_scan_only s.kind) (in_base s) h base
     go a b h k = grind arith
 
 followers : (s : IterSpec) (ss : List IterSpec) → is_scan_only s.kind ≡ false → AllByRecursion (λ t. leaves_scans t ≡ false) ss → AllByRecursion (λ t. out_of_order s t ≡ false) ss → AllByRecursion (λ t. shares_column s t ≡ false) ss
-    → AllByRecursion (AllowsBehind (stage_of s.kind)) (stages_of (filter in_base ss))
+    → AllByRecursion (AllowsBehind (stage_of s.kind)) (stage_list (filter in_base ss))
 followers s [] only scans h apart = tt
 followers s (t ∷ ts) only scans h apart = go (in_base t) refl (followers s ts only scans.1 h.1 apart.1)
   where
-    go : (b : Bool) → in_base t ≡ b → AllByRecursion (AllowsBehind (stage_of s.kind)) (stages_of (filter in_base ts))
-        → AllByRecursion (AllowsBehind (stage_of s.kind)) (stages_of (cond b (t ∷ filter in_base ts) (filter in_base ts)))
+    go : (b : Bool) → in_base t ≡ b → AllByRecursion (AllowsBehind (stage_of s.kind)) (stage_list (filter in_base ts))
+        → AllByRecursion (AllowsBehind (stage_of s.kind)) (stage_list (cond b (t ∷ filter in_base ts) (filter in_base ts)))
     go true e later = (allows s.kind t.kind only (in_compactions t scans.0 e) (sym (ap (λ b. b && is_disordered s.kind t.kind) e) ∙ h.0) apart.0, later)
     go false e later = later
 
 -- the stages of compactions are accepted
 pub base_accepted : (specs : List IterSpec) → AllByRecursion (λ s. IsLimited s.kind) specs → AllByRecursion (λ s. leaves_scans s ≡ false) specs → NoneClashes out_of_order specs → NoneClashes shares_column specs
-    → AreAccepted (stages_of (filter in_base specs))
+    → AreAccepted (stage_list (filter in_base specs))
 unfolding IsDistinct
 base_accepted [] limits scans order apart = tt
 base_accepted (s ∷ ss) limits scans order apart = go (in_base s) refl (base_accepted ss limits.1 scans.1 order.1 apart.1)
   where
-    go : (b : Bool) → in_base s ≡ b → AreAccepted (stages_of (filter in_base ss)) → AreAccepted (stages_of (cond b (s ∷ filter in_base ss) (filter in_base ss)))
+    go : (b : Bool) → in_base s ≡ b → AreAccepted (stage_list (filter in_base ss)) → AreAccepted (stage_list (cond b (s ∷ filter in_base ss) (filter in_base ss)))
     go true e later =
         let only : is_scan_only s.kind ≡ false = in_compactions s scans.0 e in
-        (well_made s.kind limits.0 only, (may_follow (stage_of s.kind) (stages_of (filter in_base ss)) (followers s ss only scans.1 order.0 apart.0), later))
+        (well_made s.kind limits.0 only, (may_follow (stage_of s.kind) (stage_list (filter in_base ss)) (followers s ss only scans.1 order.0 apart.0), later))
     go false e later = later
 
 is_short : (kind : Kind) → IsShort (stage_of kind)
@@ -141,7 +141,7 @@ is_short WholeRow = tt
 is_short (Intersecting terms without) = tt
 
 -- what combiners write is short
-pub all_short : (ss : List IterSpec) → AllByRecursion IsShort (stages_of ss)
+pub all_short : (ss : List IterSpec) → AllByRecursion IsShort (stage_list ss)
 all_short [] = tt
 all_short (s ∷ ss) = (is_short s.kind, all_short ss)
 
@@ -164,18 +164,18 @@ alone ss = filter (λ s. is_combiner s.kind) (scans_alone ss)
 
 -- they combine no column of the stages of compactions
 pub scans_apart : (specs : List IterSpec) → IsDistinct (is_behind in_base) specs → NoneClashes shares_column specs
-    → AllByRecursion (λ s. AllByRecursion (IsApartFrom s) (stages_of (alone specs))) (stages_of (filter in_base specs))
+    → AllByRecursion (λ s. AllByRecursion (IsApartFrom s) (stage_list (alone specs))) (stage_list (filter in_base specs))
 unfolding IsDistinct
 scans_apart [] first apart = tt
 scans_apart (s ∷ ss) first apart = go (in_base s) refl (scans_apart ss first.1 apart.1)
   where
-    from : AllByRecursion (IsApartFrom (stage_of s.kind)) (stages_of (alone ss))
+    from : AllByRecursion (IsApartFrom (stage_of s.kind)) (stage_list (alone ss))
     from = stages_all (IsApartFrom (stage_of s.kind)) (λ t. shares_column s t ≡ false) (λ t k. apart_from s.kind t.kind k) (alone ss) (all_filter (λ t. shares_column s t ≡ false) (λ t. is_combiner t.kind) (scans_alone ss) (all_filter (λ t. shares_column s t ≡ false) (λ t. not (in_base t)) ss apart.0))
 
     none : in_base s ≡ false → filter in_base ss ≡ []
     none e = filter_none in_base ss (map_all (λ t. is_behind in_base s t ≡ false) (λ t. in_base t ≡ false) (λ t k. behind_false (in_base s) (in_base t) e k) ss first.0)
 
-    go : (b : Bool) → in_base s ≡ b → AllByRecursion (λ t. AllByRecursion (IsApartFrom t) (stages_of (alone ss))) (stages_of (filter in_base ss))
-        → AllByRecursion (λ t. AllByRecursion (IsApartFrom t) (stages_of (filter (λ t. is_combiner t.kind) (cond (not b) (s ∷ scans_alone ss) (scans_alone ss))))) (stages_of (cond b (s ∷ filter in_base ss) (filter in_base ss)))
+    go : (b : Bool) → in_base s ≡ b → AllByRecursion (λ t. AllByRecursion (IsApartFrom t) (stage_list (alone ss))) (stage_list (filter in_base ss))
+        → AllByRecursion (λ t. AllByRecursion (IsApartFrom t) (stage_list (filter (λ t. is_combiner t.kind) (cond (not b) (s ∷ scans_alone ss) (scans_alone ss))))) (stage_list (cond b (s ∷ filter in_base ss) (filter in_base ss)))
     go true e later = (from, later)
     go false e later = rw (none e) tt

@@ -10,7 +10,8 @@ use Rattle.tablet_model.specs.Stages.{Stage, stage, stages}
 use Rattle.iter_config.specs.Order.{IsConfig, NoneClashes}
 use Rattle.iter_config.specs.Rules.{in_base, leaves_gap}
 use Rattle.iter_config.specs.RulesOf.{rules_of, scans_alone}
-use Rattle.iter_config.specs.Stages.{stage_of, stages_of}
+use Rattle.iter_config.specs.Settings.{Settings}
+use Rattle.iter_config.specs.Stages.{stage_of, stage_list, stages_of}
 use Rattle.iter_config.specs.declared.iter_spec.IterSpec.{IterSpec}
 
 pub behind_false : (a b : Bool) → a ≡ false → (b && not a) ≡ false → b ≡ false
@@ -86,10 +87,10 @@ pub base_first : (specs : List IterSpec) → NoneClashes leaves_gap specs → Is
 base_first specs h = map_distinct leaves_gap (is_behind in_base) (λ s t k. gap_base s.scopes.minc t.scopes.minc s.scopes.majc t.scopes.majc k) specs h
 
 pub stands_first : (p : IterSpec → Bool) → ((s : IterSpec) → p s ≡ true → in_base s ≡ true) → (specs : List IterSpec) → IsDistinct (is_behind p) specs
-    → StandsFirst (stages_of (filter p specs)) (stages_of (filter in_base specs))
+    → StandsFirst (stage_list (filter p specs)) (stage_list (filter in_base specs))
 stands_first p within specs h = (
-  stages_of (filter (λ s. in_base s && not (p s)) specs),
-  sym (map-append (λ s. stage_of s.kind) (filter p specs) (filter (λ s. in_base s && not (p s)) specs)) ∙ ap stages_of (passed_first p in_base within specs h),
+  stage_list (filter (λ s. in_base s && not (p s)) specs),
+  sym (map-append (λ s. stage_of s.kind) (filter p specs) (filter (λ s. in_base s && not (p s)) specs)) ∙ ap stage_list (passed_first p in_base within specs h),
 )
 
 stages_behind : (ps qs : List Stage) (list : List Cell) → stages (ps ++ qs) list ≡ stages qs (stages ps list)
@@ -98,12 +99,13 @@ stages_behind [] qs list = refl
 stages_behind (p ∷ ps) qs list = stages_behind ps qs (stage p list)
 
 -- scans run each iterator, in the order of priorities
-pub scans_run_all : (specs : List IterSpec) (list : List Cell) → IsConfig specs → scan_stack (rules_of specs) list ≡ stages (stages_of specs) list
+pub scans_run_all : (c : Settings) (list : List Cell) → IsConfig c → scan_stack (rules_of c) list ≡ stages (stages_of c) list
 unfolding rules_of
-scans_run_all specs list h =
-    sym (stages_behind (stages_of (filter in_base specs)) (stages_of (scans_alone specs)) list)
+scans_run_all c list h =
+    let specs : List IterSpec = c.iterators in
+    sym (stages_behind (stage_list (filter in_base specs)) (stage_list (scans_alone specs)) list)
     ∙ ap (λ ss. stages ss list) (sym (map-append (λ s. stage_of s.kind) (filter in_base specs) (scans_alone specs)))
-    ∙ ap (λ ss. stages (stages_of ss) list) (passed_first in_base (λ s. true) (λ s k. refl) specs (base_first specs h.prefixes) ∙ filter_all (λ s. true) specs (all_true specs))
+    ∙ ap (λ ss. stages (stage_list ss) list) (passed_first in_base (λ s. true) (λ s k. refl) specs (base_first specs h.iterators.prefixes) ∙ filter_all (λ s. true) specs (all_true specs))
   where
     all_true : (ss : List IterSpec) → AllByRecursion (λ s. true ≡ true) ss
     all_true [] = tt

@@ -5,6 +5,7 @@ pub mod Filters
 pub mod Combiners
 pub mod ScanOnly
 pub mod Iterators
+pub mod Settings
 pub mod Limits
 pub mod Rules
 pub mod Order
@@ -13,3 +14,4 @@ pub mod Predicates
 pub mod Stages
 pub mod Columns
 pub mod RulesOf
+pub mod ConfigParts

@@ -15,6 +15,10 @@ IsShortName name = length name ≤ max_part
 abbrev pub AreNames : List (List ℕ) → Type 0
 AreNames names = (1 ≤ length names) × (length names ≤ max_names) × All IsShortName names
 
+-- the families with times of their own: 64 names at most
+abbrev pub AreTimed : List (List ℕ) → Type 0
+AreTimed families = (length families ≤ max_names) × All IsShortName families
+
 -- the parts of a name of columns are names
 abbrev pub IsShortColumn : ColumnName → Type 0
 IsShortColumn column = IsShortName column.family × IfSome column.qualifier IsShortName

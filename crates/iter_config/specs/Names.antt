@@ -32,6 +32,11 @@ names_in d = do
   names ← names_of ds
   if nat_le 1 (length names) && nat_le (length names) max_names then Some names else None
 
+-- the families whose puts bring times of their own, which are none where nothing stands there
+abbrev pub timed_or_none : Option Data → Option (List (List ℕ))
+timed_or_none None = Some []
+timed_or_none (Some d) = names_in d
+
 -- names, as many as there are
 abbrev pub listed_in : Data → Option (List (List ℕ))
 listed_in d = as_array d >>= names_of

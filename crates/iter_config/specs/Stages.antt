@@ -5,6 +5,7 @@ use Rattle.number_values.specs.Values.{reduction_of}
 use Rattle.tablet_model.specs.Stages.{Stage, newest, combine, rows, intersect}
 use Rattle.iter_config.specs.Predicates.{filter_stage}
 use Rattle.iter_config.specs.Rules.{is_of_deletes}
+use Rattle.iter_config.specs.Settings.{Settings}
 use Rattle.iter_config.specs.declared.iter_spec.Kind.{Kind}
 use Rattle.iter_config.specs.declared.iter_spec.Kind.TheVariants.{Filter, Versions, Combine, WholeRow, Intersecting}
 use Rattle.iter_config.specs.declared.iter_spec.IterSpec.{IterSpec}
@@ -17,6 +18,10 @@ stage_of (Combine op columns encoding deletes) = combine (column_listed columns)
 stage_of WholeRow = rows
 stage_of (Intersecting terms without) = intersect terms without
 
--- the stages of some iterators; those of a configuration stand in priority order, the lowest priority first
-abbrev pub stages_of : List IterSpec → List Stage
-stages_of specs = map (λ s. stage_of s.kind) specs
+-- the stages of some iterators
+abbrev pub stage_list : List IterSpec → List Stage
+stage_list specs = map (λ s. stage_of s.kind) specs
+
+-- the stages of a configuration, the lowest priority first
+abbrev pub stages_of : Settings → List Stage
+stages_of c = stage_list c.iterators

@@ -1,46 +1,50 @@
 //! Accepted configurations.
 ghost use Rattle.std.specs.Prelude.{◌≡◌, ◌↔◌, ◌<◌, IsTrue, Some, length, slice_get};
 ghost use Rattle.std.specs.List.{list_all, list_any};
-ghost use Rattle.iter_config.specs.Columns.{kind_reads, kind_refuses, reads_value, refuses_delete};
-ghost use Rattle.iter_config.specs.Limits.{IsLimited};
-ghost use Rattle.iter_config.specs.Order.{IsConfig};
+ghost use Rattle.iter_config.specs.Columns.{all_read, is_timed, kind_reads, kind_refuses, one_refuses, reads_value, refuses_delete};
+ghost use Rattle.iter_config.specs.Limits.{AreTimed, IsLimited};
+ghost use Rattle.iter_config.specs.Order.{AreIterators, IsConfig};
 
-use crate::equality::same_iterators;
+use crate::equality::{same_iterators, same_names};
 use crate::iter_spec::{Deletes, IterSpec, Kind};
+use cell_key::Names;
 use std::marker::Model;
 
-/// A configuration: iterators in priority order, which keep each [`Rule`](crate::Rule). Contracts see the list of its
-/// iterators.
+/// A configuration: iterators in priority order, which keep each [`Rule`](crate::Rule), and the families whose puts bring
+/// times of their own, 64 at most. Contracts see both.
 #[derive(Drop)]
 pub struct Config {
     iterators: Vec<IterSpec>,
+    timed: Names,
 }
 
 impl Model for Config {
-    ghost use Rattle.std.specs.Prelude.{List};
-    ghost use Rattle.iter_config.specs.declared.iter_spec.IterSpec.{IterSpec};
+    ghost use Rattle.iter_config.specs.Settings.{Settings};
 
-    ghost Value = { List IterSpec };
+    ghost Value = { Settings };
 
+    ghost use Rattle.iter_config.specs.ConfigParts.{settings_of};
     ghost use Rattle.iter_config.specs.Order.{IsConfig};
 
-    ghost view = { λ c. c.iterators.items };
+    ghost view = { settings_of };
 
-    ghost invariant = { λ c. IsConfig c.iterators.items };
+    ghost invariant = { λ c. IsConfig (settings_of c) };
 }
 
 impl Config {
-    /// The configuration of these iterators. It takes no memory.
-    pub(crate) fn of(iterators: Vec<IterSpec>) -> Config
-        requires { IsConfig iterators.items }
-        ensures { result ≡ iterators.items }
+    /// The configuration of these iterators and families. It takes no memory.
+    pub(crate) fn of(iterators: Vec<IterSpec>, timed: Names) -> Config
+        requires iterators { AreIterators iterators.items }
+        requires timed { AreTimed timed }
+        ensures iterators { result.iterators ≡ iterators.items }
+        ensures timed { result.timed ≡ timed }
     {
-        Config { iterators }
+        Config { iterators, timed }
     }
 
     /// The number of iterators. It takes no memory.
     pub fn count(&self) -> usize
-        ensures count { result ≡ length self.now }
+        ensures count { result ≡ length self.now.iterators }
         ensures rules { IsConfig self.now }
     {
         self.iterators.len()
@@ -48,8 +52,8 @@ impl Config {
 
     /// The iterator at place `i` in priority order, counted from 0. It takes no memory.
     pub fn iterator(&self, i: usize) -> &IterSpec
-        requires { i < length self.now }
-        ensures element { slice_get self.now i ≡ Some result.now }
+        requires { i < length self.now.iterators }
+        ensures element { slice_get self.now.iterators i ≡ Some result.now }
         ensures limits { IsLimited result.now.kind }
     {
         &self.iterators[i]
@@ -60,14 +64,22 @@ impl Config {
         ensures { IsTrue result ↔ (self.now ≡ other.now) }
     {
         same_iterators(&self.iterators, &other.iterators)
+            && same_names(self.timed.as_slice(), other.timed.as_slice())
     }
 
-    /// Whether a delete of the columns of this family and qualifier is to be refused: a combiner of deletes `none`
-    /// lists them. It takes no memory.
+    /// Whether the puts of this family bring times of their own. It takes no memory.
+    pub fn is_timed(&self, family: &[u8]) -> bool
+        ensures { result ≡ is_timed self.now family.now }
+    {
+        self.timed.has(family)
+    }
+
+    /// Whether a delete of the columns of this family and qualifier is to be refused: the family has times of its own, or a
+    /// combiner of deletes `none` lists them. It takes no memory.
     pub fn refuses_delete(&self, family: &[u8], qualifier: &[u8]) -> bool
         ensures { result ≡ refuses_delete self.now family.now qualifier.now }
     {
-        refuses_delete(&self.iterators, family, qualifier)
+        self.is_timed(family) || one_refuses(&self.iterators, family, qualifier)
     }
 
     /// Whether the value may stand in the columns of this family and qualifier: false exactly where a combiner lists
@@ -75,7 +87,7 @@ impl Config {
     pub fn reads(&self, family: &[u8], qualifier: &[u8], value: &[u8]) -> bool
         ensures { result ≡ reads_value self.now family.now qualifier.now value.now }
     {
-        reads_value(&self.iterators, family, qualifier, value)
+        all_read(&self.iterators, family, qualifier, value)
     }
 }
 
@@ -94,9 +106,9 @@ fn kind_refuses(kind: &Kind, family: &[u8], qualifier: &[u8]) -> bool
     }
 }
 
-#[tactic(auto, unfolding(crate::specs::Columns::refuses_delete))]
-fn refuses_delete(iterators: &[IterSpec], family: &[u8], qualifier: &[u8]) -> bool
-    ensures { result ≡ refuses_delete iterators.now family.now qualifier.now }
+#[tactic(auto, unfolding(crate::specs::Columns::one_refuses))]
+fn one_refuses(iterators: &[IterSpec], family: &[u8], qualifier: &[u8]) -> bool
+    ensures { result ≡ one_refuses iterators.now family.now qualifier.now }
 {
     iterators
         .iter()
@@ -119,9 +131,9 @@ fn kind_reads(kind: &Kind, family: &[u8], qualifier: &[u8], value: &[u8]) -> boo
     }
 }
 
-#[tactic(auto, unfolding(crate::specs::Columns::reads_value))]
-fn reads_value(iterators: &[IterSpec], family: &[u8], qualifier: &[u8], value: &[u8]) -> bool
-    ensures { result ≡ reads_value iterators.now family.now qualifier.now value.now }
+#[tactic(auto, unfolding(crate::specs::Columns::all_read))]
+fn all_read(iterators: &[IterSpec], family: &[u8], qualifier: &[u8], value: &[u8]) -> bool
+    ensures { result ≡ all_read iterators.now family.now qualifier.now value.now }
 {
     iterators
         .iter()

@@ -2,43 +2,37 @@
 ghost use Rattle.std.specs.Prelude.{◌≡◌, ◌≤◌, IfOk, All, length};
 ghost use Rattle.std.specs.List.Sorted.{IsNonDecreasingBy};
 ghost use Rattle.toml.specs.View.{table_view};
-ghost use Rattle.iter_config.specs.Document.{config_of_iterators, config_from, config_of, in_order, iterators_of, priorities_of};
+ghost use Rattle.iter_config.specs.Document.{config_of, config_of_iterators, config_of_members, in_order, iterators_of, priorities_of};
 ghost use Rattle.iter_config.specs.Faults.{Reads};
 ghost use Rattle.iter_config.specs.Limits.{IsLimited};
-ghost use Rattle.iter_config.specs.Order.{NoneClashes, in_priority_order};
+ghost use Rattle.iter_config.specs.Order.{AreIterators, NoneClashes, in_priority_order};
 ghost use Rattle.iter_config.specs.Rules.{same_name, same_priority};
 ghost use Rattle.iter_config.specs.declared.error.ConfigError.TheVariants as error;
 
 use crate::config::Config;
-use crate::error::{ConfigError, Rule};
+use crate::error::{ConfigError, FieldError, Rule};
 use crate::fields::{find, has_only};
 use crate::iter_spec::IterSpec;
 use crate::iterators::{MAX_ITERATORS, iterators_in};
+use crate::names::timed_or_none;
 use crate::rules::{first_beyond_scans, first_breaking, first_gap, first_repeat, first_unscanned};
 use cell_key::NoMemory;
 use std::alloc::Global;
 use toml::value::Table;
 
 /// The iterators of a document, as they stand there.
-#[tactic(auto, using(crate::proofs::Views::count_view), unfolding(crate::specs::Document::iterators_of))]
+#[tactic(auto, using(crate::proofs::Views::count_view))]
 fn iterators_of(alloc: Global, table: &Table) -> Result<Vec<IterSpec>, ConfigError>
     ensures iterators { Reads (λ v. v.items) (iterators_of (table_view table.now)) result }
     ensures few { IfOk result (λ v. length v.items ≤ MAX_ITERATORS) }
     ensures limits { IfOk result (λ v. All (λ s. IsLimited s.kind) v.items) }
 {
-    let refused = ConfigError::Refused {
-        rule: Rule::Field,
-        at: 0,
-    };
-    if !has_only(table, &["iterator"]) {
-        return Err(refused);
-    }
     let Some(value) = find(table, "iterator") else {
         return Ok(Vec::new(alloc));
     };
     match value.as_array() {
         Some(items) if items.len() <= MAX_ITERATORS => iterators_in(alloc, items),
-        _ => Err(refused),
+        _ => Err(broken(Rule::Field, 0)),
     }
 }
 
@@ -75,16 +69,17 @@ fn in_priority_order(mut iterators: Vec<IterSpec>) -> Result<Vec<IterSpec>, NoMe
     Ok(iterators)
 }
 
-/// The configuration of iterators in priority order, whose document has these priorities.
+/// The iterators of a configuration, in priority order; their document has these priorities.
 #[tactic(auto, unfolding(crate::specs::Document::in_order))]
-fn in_order(priorities: &[u32], iterators: Vec<IterSpec>) -> Result<Config, ConfigError>
+fn in_order(priorities: &[u32], iterators: Vec<IterSpec>) -> Result<Vec<IterSpec>, ConfigError>
     requires few_priorities { length priorities.now ≤ MAX_ITERATORS }
     requires few { length iterators.items ≤ MAX_ITERATORS }
     requires limits { All (λ s. IsLimited s.kind) iterators.items }
     requires names { NoneClashes same_name iterators.items }
     requires priorities { NoneClashes same_priority iterators.items }
     requires order { IsNonDecreasingBy (λ s. s.priority) iterators.items }
-    ensures { Reads (λ c. c) (in_order priorities.now iterators.items) result }
+    ensures iterators { Reads (λ v. v.items) (in_order priorities.now iterators.items) result }
+    ensures rules { IfOk result (λ v. AreIterators v.items) }
 {
     if let Some(at) = first_unscanned(priorities, &iterators) {
         return Err(broken(Rule::NoScan, at));
@@ -104,15 +99,16 @@ fn in_order(priorities: &[u32], iterators: Vec<IterSpec>) -> Result<Config, Conf
     if let Some(at) = first_breaking(Rule::FullUnderVersions, priorities, &iterators) {
         return Err(broken(Rule::FullUnderVersions, at));
     }
-    Ok(Config::of(iterators))
+    Ok(iterators)
 }
 
-/// The configuration of iterators as they stand in a document.
+/// The iterators of a configuration, from those that stand in a document.
 #[tactic(auto, unfolding(crate::specs::Document::config_of_iterators))]
-fn accepted(alloc: Global, iterators: Vec<IterSpec>) -> Result<Config, ConfigError>
+fn config_of_iterators(alloc: Global, iterators: Vec<IterSpec>) -> Result<Vec<IterSpec>, ConfigError>
     requires few { length iterators.items ≤ MAX_ITERATORS }
     requires limits { All (λ s. IsLimited s.kind) iterators.items }
-    ensures { Reads (λ c. c) (config_of_iterators iterators.items) result }
+    ensures iterators { Reads (λ v. v.items) (config_of_iterators iterators.items) result }
+    ensures rules { IfOk result (λ v. AreIterators v.items) }
 {
     if let Some(at) = first_repeat(Rule::Name, &iterators) {
         return Err(broken(Rule::Name, at));
@@ -126,11 +122,21 @@ fn accepted(alloc: Global, iterators: Vec<IterSpec>) -> Result<Config, ConfigErr
 }
 
 /// The configuration of a document.
+#[tactic(auto, unfolding(crate::specs::Document::config_of_members))]
 fn config_in(alloc: Global, table: &Table) -> Result<Config, ConfigError>
-    ensures { Reads (λ c. c) (config_from (iterators_of (table_view table.now))) result }
+    ensures { Reads (λ c. c) (config_of_members (table_view table.now)) result }
 {
+    if !has_only(table, &["iterator", "timed"]) {
+        return Err(broken(Rule::Field, 0));
+    }
+    let timed = match timed_or_none(alloc, table) {
+        Ok(timed) => timed,
+        Err(FieldError::Field) => return Err(broken(Rule::Field, 0)),
+        Err(FieldError::NoMemory) => return Err(ConfigError::NoMemory),
+    };
     let iterators = iterators_of(alloc, table)?;
-    accepted(alloc, iterators)
+    let iterators = config_of_iterators(alloc, iterators)?;
+    Ok(Config::of(iterators, timed))
 }
 
 /// Reads a configuration. An empty text is one without iterators.

@@ -110,7 +110,8 @@ fn same_name(a: &ByteText, b: &ByteText) -> bool
     a.bytes() == b.bytes()
 }
 
-fn same_names(a: &[ByteText], b: &[ByteText]) -> bool
+/// Whether two lists of names are equal.
+pub fn same_names(a: &[ByteText], b: &[ByteText]) -> bool
     ensures { IsTrue result ↔ (a.now ≡ b.now) }
 {
     if a.len() != b.len() {

@@ -1,10 +1,10 @@
 //! Escaped names, and the names of columns.
-ghost use Rattle.std.specs.Prelude.{◌≡◌, ◌≤◌, ◌==◌, IfOk, IfSome, All, length, option_map, position};
+ghost use Rattle.std.specs.Prelude.{◌≡◌, ◌≤◌, ◌==◌, IfOk, IfSome, All, codes, length, option_map, position};
 ghost use Rattle.toml.specs.Data.{as_str, get_member};
 ghost use Rattle.toml.specs.View.{array_view, table_view, view};
 ghost use Rattle.iter_config.specs.Faults.{Gives};
-ghost use Rattle.iter_config.specs.Limits.{AreColumns, AreNames, IsShortColumn, IsShortName};
-ghost use Rattle.iter_config.specs.Names.{column_at, column_of, columns_in, columns_of, listed_in, listed_or_none, name_of, name_or_none, names_in, names_of, spelled_in};
+ghost use Rattle.iter_config.specs.Limits.{AreColumns, AreNames, AreTimed, IsShortColumn, IsShortName};
+ghost use Rattle.iter_config.specs.Names.{column_at, column_of, columns_in, columns_of, listed_in, listed_or_none, name_of, name_or_none, names_in, names_of, spelled_in, timed_or_none};
 
 use crate::error::FieldError;
 use crate::fields::{array_in, find, text_in};
@@ -94,6 +94,17 @@ pub fn listed_or_none(alloc: Global, table: &Table, key: &str) -> Result<Names, 
 {
     match find(table, key) {
         Some(value) => listed_in(alloc, value),
+        None => Ok(Names::new(alloc)),
+    }
+}
+
+/// The families whose puts bring times of their own, which are none where nothing stands under the key.
+pub fn timed_or_none(alloc: Global, table: &Table) -> Result<Names, FieldError>
+    ensures names { Gives (λ n. n) (timed_or_none (get_member (codes "timed") (table_view table.now))) result }
+    ensures limits { IfOk result AreTimed }
+{
+    match find(table, "timed") {
+        Some(value) => names_in(alloc, value),
         None => Ok(Names::new(alloc)),
     }
 }

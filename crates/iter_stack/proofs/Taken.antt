@@ -29,7 +29,8 @@ use Rattle.iter_config.specs.Order.{IsConfig}
 use Rattle.iter_config.specs.Predicates.{is_of_column, keeps, filter_stage}
 use Rattle.iter_config.specs.Limits.{IsLimited}
 use Rattle.iter_config.specs.Rules.{combines_behind, is_combiner, is_full_combiner, is_of_deletes, is_scan_only, leaves_scans, shares_column}
-use Rattle.iter_config.specs.Stages.{stage_of, stages_of}
+use Rattle.iter_config.specs.Settings.{Settings}
+use Rattle.iter_config.specs.Stages.{stage_list, stage_of, stages_of}
 use Rattle.iter_config.specs.declared.iter_spec.IterSpec.{IterSpec}
 use Rattle.iter_config.specs.declared.iter_spec.Kind.{Kind}
 use Rattle.iter_config.specs.declared.iter_spec.Kind.TheVariants.{Filter, Versions, Combine, WholeRow, Intersecting}
@@ -93,28 +94,28 @@ plain_reads e WholeRow h = tt
 plain_reads e (Intersecting terms without) h = tt
 
 -- and so do all of them
-plain_read : (ss : List IterSpec) → AllByRecursion (λ t. is_combiner t.kind ≡ false) ss → (list : List Cell) → AreUnmarkedRead (stages_of ss) list
+plain_read : (ss : List IterSpec) → AllByRecursion (λ t. is_combiner t.kind ≡ false) ss → (list : List Cell) → AreUnmarkedRead (stage_list ss) list
 plain_read ss h [] = tt
 plain_read ss h (e ∷ es) = ((λ put. stages_all (IsReadBy e) (λ t. is_combiner t.kind ≡ false) (λ t k. plain_reads e t.kind k) ss h), plain_read ss h es)
 
 -- a stage leaves its entries to be read by those behind it
-stage_read : (k : Kind) (ss : List IterSpec) → AllByRecursion (λ t. AreApart k t.kind) ss → AllByRecursion (λ t. (is_scan_only k && is_combiner t.kind) ≡ false) ss → (list : List Cell) → AreUnmarkedRead (stages_of ss) list
-    → AreUnmarkedRead (stages_of ss) (stage (stage_of k) list)
+stage_read : (k : Kind) (ss : List IterSpec) → AllByRecursion (λ t. AreApart k t.kind) ss → AllByRecursion (λ t. (is_scan_only k && is_combiner t.kind) ≡ false) ss → (list : List Cell) → AreUnmarkedRead (stage_list ss) list
+    → AreUnmarkedRead (stage_list ss) (stage (stage_of k) list)
 unfolding stage filter_stage filter_puts versions combine_columns
 stage_read (Filter predicate negate) ss apart behind list h = go (is_of_column predicate)
   where
-    go : (b : Bool) → AreUnmarkedRead (stages_of ss) (stage (cond b (by_column (keeps predicate negate)) (by_cell (keeps predicate negate))) list)
-    go true = all_filter (IsUnmarkedRead (stages_of ss)) (λ e. e.key.deleted || keeps predicate negate e) list h
-    go false = all_filter (IsUnmarkedRead (stages_of ss)) (λ e. e.key.deleted || keeps predicate negate e) list h
+    go : (b : Bool) → AreUnmarkedRead (stage_list ss) (stage (cond b (by_column (keeps predicate negate)) (by_cell (keeps predicate negate))) list)
+    go true = all_filter (IsUnmarkedRead (stage_list ss)) (λ e. e.key.deleted || keeps predicate negate e) list h
+    go false = all_filter (IsUnmarkedRead (stage_list ss)) (λ e. e.key.deleted || keeps predicate negate e) list h
 stage_read WholeRow ss apart behind list h = plain_read ss behind (stage rows list)
 stage_read (Intersecting terms without) ss apart behind list h = plain_read ss behind (stage (intersect terms without) list)
-stage_read (Versions max) ss apart behind list h = all_kept (IsUnmarkedRead (stages_of ss)) (is_recent max) [] list h
+stage_read (Versions max) ss apart behind list h = all_kept (IsUnmarkedRead (stage_list ss)) (is_recent max) [] list h
 stage_read (Combine op columns encoding deletes) ss apart behind list h =
-    let P : Cell → Type 0 = IsUnmarkedRead (stages_of ss) in
+    let P : Cell → Type 0 = IsUnmarkedRead (stage_list ss) in
     let r : Reduction = reduction_of op encoding in
-    let others : (e : Cell) → is_listed columns e.key.family e.key.qualifier ≡ true → AllByRecursion (IsReadBy e) (stages_of ss) =
+    let others : (e : Cell) → is_listed columns e.key.family e.key.qualifier ≡ true → AllByRecursion (IsReadBy e) (stage_list ss) =
     λ e listed. stages_all (IsReadBy e) (λ t. AreApart (Combine op columns encoding deletes) t.kind) (λ t k. other_reads op columns encoding deletes e listed t.kind k) ss apart in
-    all_map P P (with_joined_value (column_listed columns) r list) (rewritten_read columns r (stages_of ss) others list)
+    all_map P P (with_joined_value (column_listed columns) r list) (rewritten_read columns r (stage_list ss) others list)
     (filter_beside (leads (column_listed columns)) [] list) (all_kept P (leads (column_listed columns)) [] list h)
 
 -- the values in the listed columns
@@ -163,19 +164,19 @@ in_scan usage s stays runs only = go usage runs
 
 -- each iterator takes what those before it make
 takes_all : (usage : Usage) (specs : List IterSpec) → AllByRecursion (λ s. IsLimited s.kind) specs → AllByRecursion (λ s. leaves_scans s ≡ false) specs → IsDistinct combines_behind specs → IsDistinct shares_column specs
-    → (list : List Cell) → (usage ≡ Scan → NoMarkers list) → AreUnmarkedRead (stages_of specs) list
+    → (list : List Cell) → (usage ≡ Scan → NoMarkers list) → AreUnmarkedRead (stage_list specs) list
     → ((columns : List ColumnName) → AreInFront (column_listed columns) [] list) → AllTake usage specs list
 unfolding AllTake IsDistinct
 takes_all usage [] limits stays behind apart list plain read front = tt
 takes_all usage (s ∷ ss) limits stays behind apart list plain read front = (
-  (λ runs. takes_kind s.kind limits.0 (stages_of ss) list (λ only. plain (in_scan usage s stays.0 runs only)) read front),
+  (λ runs. takes_kind s.kind limits.0 (stage_list ss) list (λ only. plain (in_scan usage s stays.0 runs only)) read front),
   takes_all usage ss limits.1 stays.1 behind.1 apart.1 (made_by usage s list) (plain_on (runs_in usage s)) (read_on (runs_in usage s)) (front_on (runs_in usage s)),
 )
   where
-    later : AreUnmarkedRead (stages_of ss) list
-    later = later_read (stage_of s.kind) (stages_of ss) list read
+    later : AreUnmarkedRead (stage_list ss) list
+    later = later_read (stage_of s.kind) (stage_list ss) list read
 
-    read_on : (b : Bool) → AreUnmarkedRead (stages_of ss) (cond b (stage (stage_of s.kind) list) list)
+    read_on : (b : Bool) → AreUnmarkedRead (stage_list ss) (cond b (stage (stage_of s.kind) list) list)
     read_on true = stage_read s.kind ss apart.0 behind.0 list later
     read_on false = later
 
@@ -215,6 +216,8 @@ bottom_front Pack list listed = live_front list listed
 bottom_plain : (usage : Usage) (list : List Cell) → usage ≡ Scan → NoMarkers (bottom_cells usage list)
 bottom_plain usage list scan = subst (λ u. NoMarkers (bottom_cells u list)) (sym scan) (live_plain list)
 
-pub all_taken : (usage : Usage) (specs : List IterSpec) → IsConfig specs → (list : List Cell) → AreUnmarkedRead (stages_of specs) list → AllTake usage specs (bottom_cells usage list)
-all_taken usage specs config list read =
-    takes_all usage specs (recursion_from_All (λ s. IsLimited s.kind) specs config.limits) (recursion_from_All (λ s. leaves_scans s ≡ false) specs config.in_scans) config.uncombined config.apart (bottom_cells usage list) (λ scan. bottom_plain usage list scan) (bottom_read usage (stages_of specs) list read) (λ columns. bottom_front usage list (column_listed columns))
+pub all_taken : (usage : Usage) (c : Settings) → IsConfig c → (list : List Cell) → AreUnmarkedRead (stages_of c) list → AllTake usage c.iterators (bottom_cells usage list)
+all_taken usage c config list read =
+    let specs = c.iterators in
+    let rules = config.iterators in
+    takes_all usage specs (recursion_from_All (λ s. IsLimited s.kind) specs rules.limits) (recursion_from_All (λ s. leaves_scans s ≡ false) specs rules.in_scans) rules.uncombined rules.apart (bottom_cells usage list) (λ scan. bottom_plain usage list scan) (bottom_read usage (stages_of c) list read) (λ columns. bottom_front usage list (column_listed columns))

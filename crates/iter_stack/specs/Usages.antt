@@ -9,6 +9,7 @@ use Rattle.number_values.specs.declared.op.Op.{Op}
 use Rattle.number_values.specs.declared.op.Op.TheVariants as op
 use Rattle.iter_config.specs.Rules.{in_base, is_full_combiner}
 use Rattle.iter_config.specs.RulesOf.{rules_of}
+use Rattle.iter_config.specs.Settings.{Settings}
 use Rattle.iter_config.specs.Stages.{stages_of}
 use Rattle.iter_config.specs.declared.iter_spec.IterSpec.{IterSpec}
 use Rattle.iter_config.specs.declared.iter_spec.Kind.{Kind}
@@ -17,12 +18,12 @@ use Rattle.iter_stack.specs.declared.usage.Usage.{Usage}
 use Rattle.iter_stack.specs.declared.usage.Usage.TheVariants.{Scan, Minc, MajcPart, MajcFull, Pack}
 
 -- what a scan sees of a list, what a compaction makes of it (Accumulo), or what the image of a whole history has (this project's own)
-unfoldable pub usage_cells : List IterSpec → Usage → List Cell → List Cell
-usage_cells specs Scan list = stages (stages_of specs) (live list)
-usage_cells specs Minc list = minor_compaction (rules_of specs).minor list
-usage_cells specs MajcPart list = partial_compaction (rules_of specs).major list
-usage_cells specs MajcFull list = full_compaction (rules_of specs).major list
-usage_cells specs Pack list = stages (rules_of specs).base (live list)
+unfoldable pub usage_cells : Settings → Usage → List Cell → List Cell
+usage_cells c Scan list = stages (stages_of c) (live list)
+usage_cells c Minc list = minor_compaction (rules_of c).minor list
+usage_cells c MajcPart list = partial_compaction (rules_of c).major list
+usage_cells c MajcFull list = full_compaction (rules_of c).major list
+usage_cells c Pack list = stages (rules_of c).base (live list)
 
 -- whether an iterator runs (Accumulo's scopes); that compactions of some files leave out the combiners of columns with deletes is this
 -- project's rule
@@ -49,5 +50,5 @@ takes_memory WholeRow = true
 takes_memory (Intersecting terms without) = true
 
 -- whether a stack is steady (this project's own): where its leaf is, and no iterator that runs takes memory
-unfoldable pub usage_steady : List IterSpec → Usage → Bool → Bool
-usage_steady specs usage leaf = leaf && not (list_any (λ s. runs_in usage s && takes_memory s.kind) specs)
+unfoldable pub usage_steady : Settings → Usage → Bool → Bool
+usage_steady c usage leaf = leaf && not (list_any (λ s. runs_in usage s && takes_memory s.kind) c.iterators)

@@ -34,8 +34,8 @@ pub(crate) fn bottom<S: SortedSource>(
 
 /// The stage of the iterator at place `i`, if there is one and it runs.
 fn stage_at(alloc: Global, config: &Config, usage: Usage, i: usize) -> Result<LevelStage, NoMemory>
-    ensures { IfOk result (IsFresh (made_at usage (slice_get config.now i)) (steady_at usage (slice_get config.now i))
-        (TakesAt usage (slice_get config.now i)) (CountsAt usage (slice_get config.now i))) }
+    ensures { IfOk result (IsFresh (made_at usage (slice_get config.now.iterators i)) (steady_at usage (slice_get config.now.iterators i))
+        (TakesAt usage (slice_get config.now.iterators i)) (CountsAt usage (slice_get config.now.iterators i))) }
 {
     if i < config.count() {
         let spec = config.iterator(i);
@@ -59,7 +59,7 @@ fn copies_of(kind: &Kind) -> usize
 
 /// How many further sources the iterator at place `i` has, if there is one and it runs.
 fn copies_at(config: &Config, usage: Usage, i: usize) -> usize
-    ensures { CountsAt usage (slice_get config.now i) (1 + result) }
+    ensures { CountsAt usage (slice_get config.now.iterators i) (1 + result) }
 {
     if i < config.count() {
         let spec = config.iterator(i);
@@ -81,10 +81,10 @@ fn level_at<S: SortedSource>(
 ) -> Result<Level<S>, NoMemory>
     requires unsought { S.rest source ≡ [] }
     requires valid { S.valid source }
-    requires takes { TakesAt usage (slice_get config.now i) (S.cells source) }
+    requires takes { TakesAt usage (slice_get config.now.iterators i) (S.cells source) }
     ensures { IfOk result (λ it. IsCopy
-        (made_at usage (slice_get config.now i) (S.cells source))
-        (steady_at usage (slice_get config.now i) (S.steady source))
+        (made_at usage (slice_get config.now.iterators i) (S.cells source))
+        (steady_at usage (slice_get config.now.iterators i) (S.steady source))
         (level_cells S.cells it) (level_rest S.cells S.rest it) (level_steady S.steady it)
         (level_valid S.cells S.rest S.valid it)) }
 {
@@ -105,10 +105,10 @@ pub(crate) fn four_over<S: SortedSource>(
     requires few { i ≤ 12 }
     requires unsought { S.rest source ≡ [] }
     requires valid { S.valid source }
-    requires take { FourTake usage config.now i (S.cells source) }
+    requires take { FourTake usage config.now.iterators i (S.cells source) }
     ensures { IfOk result (λ it. IsCopy
-        (four_made usage config.now i (S.cells source))
-        (steady_by_four usage config.now i (S.steady source))
+        (four_made usage config.now.iterators i (S.cells source))
+        (steady_by_four usage config.now.iterators i (S.steady source))
         (four_cells S.cells it) (four_rest S.cells S.rest it) (four_steady S.steady it)
         (four_valid S.cells S.rest S.valid it)) }
 {

@@ -105,7 +105,7 @@ impl LevelStage {
         encoding: Encoding,
     ) -> Result<LevelStage, NoMemory>
         ensures { IfOk result (IsFresh
-            (combined (column_listed columns.now) (reduction_of op encoding))
+            (combine_columns (column_listed columns.now) (reduction_of op encoding))
             (λ source. if is_of_arrays op then false else source)
             (AreCombinable columns.now (reduction_of op encoding)) (λ count. ⊤)) }
     {

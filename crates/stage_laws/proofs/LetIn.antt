@@ -31,11 +31,11 @@ reads_all (rows ∷ ss) e h = (tt, reads_all ss e h)
 reads_all (intersect terms without ∷ ss) e h = (tt, reads_all ss e h)
 
 -- what the checks say of a change of the k-th mutation
-record IsLetIn (c : Rules) (m : RowChange) (k : ℕ) (u : Change) : Type 0 where
-  short : IsShortEnough u
-  deletes : is_refused_delete c k m u ≡ false
-  timed : is_mistimed c k m u ≡ false
-  read : is_unread c k m u ≡ false
+pub record IsLetIn (c : Rules) (m : RowChange) (k : ℕ) (u : Change) : Type 0 where
+  pub short : IsShortEnough u
+  pub deletes : is_refused_delete c k m u ≡ false
+  pub timed : is_mistimed c k m u ≡ false
+  pub read : is_unread c k m u ≡ false
 
 storable_entry : (c : Rules) (m : RowChange) (k : ℕ) → IsInside m → (u : Change) → IsLetIn c m k u → IsStorable c (entry_of m.row (pos k) u)
 unfolding is_refused_delete is_unread
@@ -77,15 +77,16 @@ own_time c m k u h p = go u.time (untimed (is_some u.time) (is_delete u.value) (
     go None s = (omega (arith, ints), omega (arith, ints))
     go (Some x) s = absurd (grind arith)
 
-record IsFound (c : Rules) (n : ℕ) (m : RowChange) : Type 0 where
-  inside : IsInside m
-  changes : AllByRecursion (IsLetIn c m (n + 1)) m.changes
+-- what they say of a mutation behind n others
+pub record IsFound (c : Rules) (n : ℕ) (m : RowChange) : Type 0 where
+  pub inside : IsInside m
+  pub changes : AllByRecursion (IsLetIn c m (n + 1)) m.changes
 
 all_let_in : (c : Rules) (m : RowChange) (k : ℕ) (us : List Change) → AllByRecursion IsShortEnough us → AllByRecursion (λ u. is_refused_delete c k m u ≡ false) us → AllByRecursion (λ u. is_mistimed c k m u ≡ false) us → AllByRecursion (λ u. is_unread c k m u ≡ false) us → AllByRecursion (IsLetIn c m k) us
 all_let_in c m k [] a b d e = tt
 all_let_in c m k (u ∷ us) a b d e = (record { short = a.0; deletes = b.0; timed = d.0; read = e.0 }, all_let_in c m k us a.1 b.1 d.1 e.1)
 
-found : (c : Rules) (n : ℕ) (m : RowChange) → ingest c n m ≡ None → IsFound c n m
+pub found : (c : Rules) (n : ℕ) (m : RowChange) → ingest c n m ≡ None → IsFound c n m
 unfolding ingest
 found c n m h =
     let i : IsInside m = inside m (none_first (out_of_bounds m) _ h) in

@@ -9,7 +9,7 @@ use Rattle.tablet_model.specs.Store.{frozen_of}
 use Rattle.tablet_model.specs.Sum.{sum_all}
 use Rattle.tablet_model.proofs.Ingests.{none_cond}
 use Rattle.iter_config.specs.RulesOf.{rules_of}
-use Rattle.iter_config.specs.declared.iter_spec.IterSpec.{IterSpec}
+use Rattle.iter_config.specs.Settings.{Settings}
 use Rattle.compactor.specs.Compacted.{Compaction, entries_made}
 use Rattle.iter_stack.specs.Usages.{usage_cells}
 use Rattle.iter_stack.specs.declared.usage.Usage.TheVariants.{Minc}
@@ -78,11 +78,11 @@ unfolding flush_of usage_cells
 flush_makes v z = refl
 
 -- the parts of that job: one cursor over the frozen part
-pub flush_storable : (v : Snapshot) (config : List IterSpec) (z list : List Cell) → IsStanding v → Some z ≡ v.frozen → config ≡ v.config → list ≡ sum_all (z ∷ []) → AreStorable (rules_of config) list
+pub flush_storable : (v : Snapshot) (config : Settings) (z list : List Cell) → IsStanding v → Some z ≡ v.frozen → config ≡ v.config → list ≡ sum_all (z ∷ []) → AreStorable (rules_of config) list
 flush_storable v config z list h e c l =
     subst (λ d. AreStorable (rules_of d) list) (sym c) (subst (AreStorable (rules_of v.config)) (sym l) (frozen_storable v z e h))
 
-pub flush_is : (v : Snapshot) (config : List IterSpec) (z list : List Cell) (job : Compaction) → IsStanding v → Some z ≡ v.frozen → config ≡ v.config → list ≡ sum_all (z ∷ []) → job ≡ record { config = config; usage = Minc; input = list } → Some job ≡ option_map (flush_of v) v.frozen
+pub flush_is : (v : Snapshot) (config : Settings) (z list : List Cell) (job : Compaction) → IsStanding v → Some z ≡ v.frozen → config ≡ v.config → list ≡ sum_all (z ∷ []) → job ≡ record { config = config; usage = Minc; input = list } → Some job ≡ option_map (flush_of v) v.frozen
 unfolding flush_of
 flush_is v config z list job h e c l j =
     ap Some (j ∙ (λ i. record { config = c i; usage = Minc; input = (l ∙ frozen_input v z e h ∙ ap (λ o. unwrap_or o []) (sym e)) i })) ∙ ap (option_map (λ x. record { config = v.config; usage = Minc; input = x })) e

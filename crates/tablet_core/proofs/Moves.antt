@@ -8,7 +8,7 @@ use Rattle.tablet_model.specs.Steps.{Event, StepAnswer, answer_to_step, log_afte
 use Rattle.stage_laws.proofs.Kept.{absurd_bool}
 use Rattle.stage_laws.proofs.StandingSteps.{parts_same, refused_log, steps_stand}
 use Rattle.iter_config.specs.RulesOf.{rules_of}
-use Rattle.iter_config.specs.declared.iter_spec.IterSpec.{IterSpec}
+use Rattle.iter_config.specs.Settings.{Settings}
 use Rattle.iter_config.proofs.Soundness.{sound}
 use Rattle.tablet_view.specs.Extending.{Extends}
 use Rattle.tablet_view.specs.Snapshot.{IsStanding, store_of}
@@ -98,7 +98,7 @@ core_stands e k l a v i m n =
     let few = few_stand e k l i s in
     record { jobs = jobs_stand e k l v i.jobs s; next = n i.next; filled = filled_jobs l few; few = few_files l few }
 
-pub empty_standing : (config : List IterSpec) → IsStandingCore (empty_core config)
+pub empty_standing : (config : Settings) → IsStandingCore (empty_core config)
 unfolding state_of store_of
 empty_standing config = record { jobs = record { below = tt; files_there = tt; own_numbers = tt; files_apart = tt; others_newer = tt }; next = one 1; filled = tt; few = least 64 }
   where

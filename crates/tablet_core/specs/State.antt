@@ -6,7 +6,7 @@ use Rattle.tablet_model.specs.Store.{Store, RunningJob}
 use Rattle.tablet_model.specs.Steps.{Event, StepAnswer, refuse, answer_to_step, is_empty, store_after, log_after}
 use Rattle.tablet_model.specs.Stands.{StandsInJobs}
 use Rattle.iter_config.specs.RulesOf.{rules_of}
-use Rattle.iter_config.specs.declared.iter_spec.IterSpec.{IterSpec}
+use Rattle.iter_config.specs.Settings.{Settings}
 use Rattle.tablet_view.specs.Snapshot.{Snapshot, empty_snapshot, store_of}
 use Rattle.tablet_view.specs.Extending.{Extends}
 use Rattle.tablet_steps.specs.ModelSteps.{model_refusal_of}
@@ -23,7 +23,7 @@ unfoldable pub state_of : CoreState → Store
 state_of k = store_of k.view k.next k.jobs
 
 -- the core of no mutations
-abbrev pub empty_core : List IterSpec → CoreState
+abbrev pub empty_core : Settings → CoreState
 empty_core config = record { view = empty_snapshot config; next = 1; jobs = [] }
 
 -- a job has files

@@ -13,7 +13,7 @@ use Rattle.tablet_model.specs.Store.{Store}
 use Rattle.tablet_model.proofs.Merges.{all_append}
 use Rattle.tablet_model.proofs.Sums.{all_weaker}
 use Rattle.iter_config.specs.RulesOf.{rules_of}
-use Rattle.iter_config.specs.declared.iter_spec.IterSpec.{IterSpec}
+use Rattle.iter_config.specs.Settings.{Settings}
 
 use Rattle.scan_session.specs.Walks.{Walks, end_of, fetch_pieces}
 use Rattle.scan_session.specs.declared.piece.Piece.{Piece}
@@ -93,7 +93,7 @@ still_found number new s ss false h =
 
 -- ---- the history
 
-log_grows : (config : List IterSpec) (log : List RowChange) (e : Event) → BeginsWith (log_behind config log e) log
+log_grows : (config : Settings) (log : List RowChange) (e : Event) → BeginsWith (log_behind config log e) log
 unfolding log_behind
 log_grows config log (apply m) = by_answer (is_some (ingest (rules_of config) (length log) m))
   where

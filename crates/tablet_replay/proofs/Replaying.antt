@@ -9,7 +9,7 @@ use Rattle.tablet_model.specs.History.{RowChange}
 use Rattle.tablet_model.specs.Steps.{Event, StepAnswer, apply, freeze, flush, compact, compact_all, finish, log_after}
 use Rattle.tablet_model.specs.Store.{File, RunningJob, Store}
 use Rattle.iter_config.specs.RulesOf.{rules_of}
-use Rattle.iter_config.specs.declared.iter_spec.IterSpec.{IterSpec}
+use Rattle.iter_config.specs.Settings.{Settings}
 use Rattle.compactor.specs.Jobs.{job_of}
 use Rattle.compactor.specs.declared.job_state.JobState.{JobState}
 
@@ -37,7 +37,7 @@ pinned_step e k l None h ss all = subst (λ (m : CoreState). ArePinned m.view ss
 pinned_step e k l (Some a) h ss all = all_pinned k.view l.view h.1.extends ss all
 
 -- the history that the store's count gives is that of its own length
-pub logs_are : (config : List IterSpec) (s : Store) (log : List RowChange) (e : Event) → s.count ≡ length log → log_after (rules_of config) s log e ≡ log_behind config log e
+pub logs_are : (config : Settings) (s : Store) (log : List RowChange) (e : Event) → s.count ≡ length log → log_after (rules_of config) s log e ≡ log_behind config log e
 unfolding log_after log_behind
 logs_are config s log (apply m) h = ap (λ n. cond (is_some (ingest (rules_of config) n m)) log (log ++ m ∷ [])) h
 logs_are config s log freeze h = refl

@@ -5,7 +5,7 @@ use Rattle.std.proofs.lemmas.List.{length-map}
 use Rattle.script_text.specs.Code.{newline}
 use Rattle.script_text.specs.Lines.{content, lines_of, raw_lines}
 use Rattle.tablet_model.specs.Store.{empty_store}
-use Rattle.iter_config.specs.declared.iter_spec.IterSpec.{IterSpec}
+use Rattle.iter_config.specs.Settings.{Settings}
 use Rattle.tablet_core.specs.State.{empty_core, state_of}
 use Rattle.tablet_view.specs.Snapshot.{store_of}
 use Rattle.tablet_replay.specs.Replay.{replayed_none}
@@ -25,6 +25,6 @@ pub lines_few : (text : List ℕ) → length (lines_of text) ≤ length text
 lines_few text = subst (λ n. n ≤ length text) (sym (length-map (raw_lines text) content)) (raw_few text)
 
 -- nothing was made where nothing was read
-pub begins_empty : (config : List IterSpec) → replayed_by (record { core = empty_core config; sessions = [] }) ≡ replayed_none config
+pub begins_empty : (config : Settings) → replayed_by (record { core = empty_core config; sessions = [] }) ≡ replayed_none config
 unfolding state_of store_of empty_store
 begins_empty config = refl

@@ -5,7 +5,7 @@ use Rattle.tablet_model.specs.Cuts.{Span}
 use Rattle.tablet_model.specs.Stages.{stages}
 use Rattle.tablet_model.specs.Steps.{Event}
 use Rattle.iter_config.specs.Stages.{stages_of}
-use Rattle.iter_config.specs.declared.iter_spec.IterSpec.{IterSpec}
+use Rattle.iter_config.specs.Settings.{Settings}
 use Rattle.scan_session.specs.Walks.{Walks, end_of, fetch_pieces}
 use Rattle.scan_session.specs.declared.piece.Piece.{Piece}
 use Rattle.script_text.specs.Answers.{scan_text}
@@ -106,7 +106,7 @@ FetchesSayTheirPieces = (r : Replayed) (number count : ℕ) (s : OpenScan) → f
 
 -- all pieces that an open session is given along a script, until it is closed, are a walk over the history, at numbers that never fall
 abbrev pub SessionsWalk : Type 0
-SessionsWalk = (config : List IterSpec) (before lines : List (List ℕ)) (number : ℕ) (s : OpenScan)
+SessionsWalk = (config : Settings) (before lines : List (List ℕ)) (number : ℕ) (s : OpenScan)
     → find_session number (behind_lines (replayed_none config) before).sessions ≡ Some s → NoneEnds number lines
     → (t : OpenScan) × (find_session number (behind_lines (behind_lines (replayed_none config) before) lines).sessions ≡ Some t)
     × HasScanned (behind_lines (behind_lines (replayed_none config) before) lines) (behind_lines (replayed_none config) before) t s

@@ -7,7 +7,7 @@ use Rattle.tablet_model.specs.Markers.{live}
 use Rattle.tablet_model.specs.Stages.{stages}
 use Rattle.iter_config.specs.Faults.{Fault}
 use Rattle.iter_config.specs.RulesOf.{rules_of}
-use Rattle.iter_config.specs.declared.iter_spec.IterSpec.{IterSpec}
+use Rattle.iter_config.specs.Settings.{Settings}
 use Rattle.cell_key.specs.Mutations.{row_change_of}
 use Rattle.script_text.specs.Lines.{script_lines}
 use Rattle.script_text.specs.Grammar.{line_of}
@@ -20,25 +20,25 @@ use Rattle.tablet_replay.specs.Refusals.{config_line}
 use Rattle.tablet_replay.specs.Replay.{input_config}
 
 -- the history behind a mutation: where it comes in, it stands at the end
-abbrev pub history_with : List IterSpec → List RowChange → RowChange → List RowChange
+abbrev pub history_with : Settings → List RowChange → RowChange → List RowChange
 history_with config h m = cond (is_some (ingest (rules_of config) (length h) m)) h (h ++ m ∷ [])
 
 -- the history behind a line
-unfoldable pub history_after : List IterSpec → List RowChange → Option Line → List RowChange
+unfoldable pub history_after : Settings → List RowChange → Option Line → List RowChange
 history_after config h (Some (Step (Apply m))) = history_with config h (row_change_of m)
 history_after config h _ = h
 
 -- the history behind some lines
-abbrev pub history_behind : List IterSpec → List RowChange → List (List ℕ) → List RowChange
+abbrev pub history_behind : Settings → List RowChange → List (List ℕ) → List RowChange
 history_behind config h [] = h
 history_behind config h (line ∷ lines) = history_behind config (history_after config h (line_of line)) lines
 
 -- what the iterators of compactions make of the live entries of a history
-abbrev pub pack_entries : List IterSpec → List RowChange → List Cell
+abbrev pub pack_entries : Settings → List RowChange → List Cell
 pack_entries config h = stages (rules_of config).base (live (history_entries h))
 
 -- what is written under a configuration for the lines of a script, or under none
-abbrev pub pack_under : Result (List IterSpec) Fault → List (List ℕ) → List ℕ
+abbrev pub pack_under : Result (Settings) Fault → List (List ℕ) → List ℕ
 pack_under (Err f) lines = config_line f
 pack_under (Ok config) lines = image_of (pack_entries config (history_behind config [] lines))
 

@@ -11,7 +11,7 @@ use Rattle.tablet_model.specs.Store.{Store, empty_store}
 use Rattle.iter_config.specs.Document.{config_of}
 use Rattle.iter_config.specs.Faults.{Fault}
 use Rattle.iter_config.specs.RulesOf.{rules_of}
-use Rattle.iter_config.specs.declared.iter_spec.IterSpec.{IterSpec}
+use Rattle.iter_config.specs.Settings.{Settings}
 use Rattle.scan_session.specs.Takes.{mode_of}
 use Rattle.script_text.specs.Lines.{config_bytes, script_lines}
 use Rattle.script_text.specs.Grammar.{line_of}
@@ -30,13 +30,13 @@ use Rattle.tablet_replay.specs.Status.{status_text}
 
 -- what a script has made: under its configuration, the accepted mutations, a store of lists, and the open sessions
 pub record Replayed : Type 0 where
-  pub config : List IterSpec
+  pub config : Settings
   pub log : List RowChange
   pub store : Store
   pub sessions : List OpenScan
 
 -- nothing yet
-abbrev pub replayed_none : List IterSpec → Replayed
+abbrev pub replayed_none : Settings → Replayed
 replayed_none config = record { config = config; log = []; store = empty_store; sessions = [] }
 
 -- the answer to a step of the store
@@ -44,7 +44,7 @@ abbrev pub step_answer_text : Replayed → Event → List ℕ
 step_answer_text r e = answer_line (answer_to_step (rules_of r.config) r.store e)
 
 -- the history behind a step of the store: a mutation that comes in behind it, by its own length, stands at its end
-unfoldable pub log_behind : List IterSpec → List RowChange → Event → List RowChange
+unfoldable pub log_behind : Settings → List RowChange → Event → List RowChange
 log_behind config log (apply m) = cond (is_some (ingest (rules_of config) (length log) m)) log (log ++ m ∷ [])
 log_behind config log _ = log
 
@@ -125,7 +125,7 @@ script_answers r [] = []
 script_answers r (line ∷ lines) = line_answer r (line_of line) ++ script_answers (after_line r (line_of line)) lines
 
 -- the configuration of an input, or why it is refused
-abbrev pub input_config : List ℕ → Result (List IterSpec) Fault
+abbrev pub input_config : List ℕ → Result (Settings) Fault
 input_config bytes = config_of (config_bytes bytes)
 
 -- whether it is refused
@@ -133,7 +133,7 @@ abbrev pub is_refused : List ℕ → Bool
 is_refused bytes = is_err (input_config bytes)
 
 -- what is written under a configuration for the lines of a script, or under none
-abbrev pub text_under : Result (List IterSpec) Fault → List (List ℕ) → List ℕ
+abbrev pub text_under : Result (Settings) Fault → List (List ℕ) → List ℕ
 text_under (Err f) lines = config_line f
 text_under (Ok config) lines = script_answers (replayed_none config) lines
 

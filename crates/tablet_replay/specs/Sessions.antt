@@ -7,7 +7,7 @@ use Rattle.tablet_model.specs.History.{RowChange}
 use Rattle.tablet_model.specs.Places.{Place, after}
 use Rattle.tablet_model.specs.Stages.{stages}
 use Rattle.iter_config.specs.Stages.{stages_of}
-use Rattle.iter_config.specs.declared.iter_spec.IterSpec.{IterSpec}
+use Rattle.iter_config.specs.Settings.{Settings}
 use Rattle.scan_session.specs.Takes.{Mode, place_after, take_together}
 use Rattle.scan_session.specs.Walks.{end_of}
 use Rattle.script_text.specs.Answers.{found_text}
@@ -39,27 +39,27 @@ abbrev pub without_session : ℕ → List OpenScan → List OpenScan
 without_session number sessions = elim (place_of number sessions) [ None ↦ sessions | Some i ↦ remove sessions i ]
 
 -- what a scan answers over a log: the configured stack over its live entries of these families, in this range
-abbrev pub scan_answer : List IterSpec → Span → Option (List (List ℕ)) → List RowChange → List Cell
+abbrev pub scan_answer : Settings → Span → Option (List (List ℕ)) → List RowChange → List Cell
 scan_answer config range families log = answer (stages (stages_of config)) range families log
 
 -- what a session answers
-abbrev pub session_answer : List IterSpec → List RowChange → OpenScan → List Cell
+abbrev pub session_answer : Settings → List RowChange → OpenScan → List Cell
 session_answer config log s = scan_answer config s.range s.families (take s.n log)
 
 -- the next entries of a session, `count` of them or more where they may not be parted, or all that are left
-abbrev pub next_entries : List IterSpec → List RowChange → ℕ → OpenScan → List Cell
+abbrev pub next_entries : Settings → List RowChange → ℕ → OpenScan → List Cell
 next_entries config log count s = take_together s.mode count (after s.place (session_answer config log s))
 
 -- the session behind them
-abbrev pub session_behind : List IterSpec → List RowChange → ℕ → OpenScan → OpenScan
+abbrev pub session_behind : Settings → List RowChange → ℕ → OpenScan → OpenScan
 session_behind config log count s = record s { place = place_after s.mode s.place (next_entries config log count s) }
 
 -- what a session has left
-abbrev pub session_rest : List IterSpec → List RowChange → OpenScan → List Cell
+abbrev pub session_rest : Settings → List RowChange → OpenScan → List Cell
 session_rest config log s = after s.place (session_answer config log s)
 
 -- the text of a fetch: the next entries, and then the end where nothing is left behind them
-abbrev pub fetch_text : List IterSpec → List RowChange → ℕ → OpenScan → List ℕ
+abbrev pub fetch_text : Settings → List RowChange → ℕ → OpenScan → List ℕ
 fetch_text config log count s =
     found_text s.n (next_entries config log count s)
     ++ rest_line (end_of s.n (session_rest config log (session_behind config log count s)))

@@ -122,7 +122,7 @@ impl Tablet {
         output: &mut O,
     ) -> Result<(), ReplyError>
         ensures bytes { Sends (text.old ++ scan_text (length (replayed_by self.now).log)
-            (scanned (replayed_by self.now).config range.now families.now (replayed_by self.now).log)) (O.taken output.old) (O.taken output.new) text.new result }
+            (scan_answer (replayed_by self.now).config range.now families.now (replayed_by self.now).log)) (O.taken output.old) (O.taken output.new) text.new result }
         ensures cause { HasCause (O.faults output.old) (O.faults output.new) result }
     {
         let view = self.core.view();

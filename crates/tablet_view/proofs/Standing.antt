@@ -11,11 +11,11 @@ use Rattle.stage_laws.proofs.StandingJobs.{stands_replaced}
 use Rattle.stage_laws.proofs.StandingSteps.{empty_stands, parts_same}
 use Rattle.iter_config.specs.Order.{IsConfig}
 use Rattle.iter_config.specs.RulesOf.{rules_of}
-use Rattle.iter_config.specs.declared.iter_spec.IterSpec.{IterSpec}
+use Rattle.iter_config.specs.Settings.{Settings}
 use Rattle.iter_config.proofs.Soundness.{sound}
 use Rattle.tablet_view.specs.Snapshot.{IsMajorOf, IsStanding, OthersAreNewer, Snapshot, after_apply, empty_snapshot, after_flush, after_freeze, refused_by, after_major, store_of}
 
-pub standing_empty : (config : List IterSpec) → IsConfig config → IsStanding (empty_snapshot config)
+pub standing_empty : (config : Settings) → IsConfig config → IsStanding (empty_snapshot config)
 unfolding store_of empty_store
 standing_empty config h = record { config = h; parts = parts_same (rules_of config) empty_store (store_of (empty_snapshot config) 0 []) [] refl refl refl refl (empty_stands (rules_of config) (sound config h)).in_parts }
 

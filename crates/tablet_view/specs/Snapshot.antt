@@ -9,11 +9,11 @@ use Rattle.tablet_model.specs.Store.{Store, File, RunningJob, all_of, cells_of, 
 use Rattle.tablet_model.specs.Sum.{sum_of}
 use Rattle.iter_config.specs.Order.{IsConfig}
 use Rattle.iter_config.specs.RulesOf.{rules_of}
-use Rattle.iter_config.specs.declared.iter_spec.IterSpec.{IterSpec}
+use Rattle.iter_config.specs.Settings.{Settings}
 
 -- a configuration, the mutations that came in under it, the tablet's parts, and a number that rises from snapshot to snapshot
 pub record Snapshot : Type 0 where
-  pub config : List IterSpec
+  pub config : Settings
   pub log : List RowChange
   pub files : List File
   pub frozen : Option (List Cell)
@@ -34,7 +34,7 @@ pub record IsStanding (v : Snapshot) : Type 0 where
   pub parts : StandsInParts (rules_of v.config) (store_of v 0 []) v.log
 
 -- the snapshot of no mutations
-abbrev pub empty_snapshot : List IterSpec → Snapshot
+abbrev pub empty_snapshot : Settings → Snapshot
 empty_snapshot config = record { config = config; log = []; files = []; frozen = None; memory = []; version = 0 }
 
 -- why a mutation stays out, if it does

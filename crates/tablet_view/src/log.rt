@@ -7,6 +7,7 @@ ghost use Rattle.tablet_model.specs.Runs.{AreHalving};
 use crate::run::Run;
 use crate::same_entries::same_mutation;
 use cell_key::{Entries, Entry, NoMemory};
+use iter_config::Config;
 use std::alloc::Global;
 use std::marker::Model;
 
@@ -19,14 +20,14 @@ pub(crate) struct Log {
 }
 
 impl Model for Log {
-    ghost use Rattle.std.specs.Prelude.{◌≡◌, ◌<◌, ◌^◌, List, map, length};
-    ghost use Rattle.tablet_model.specs.History.{RowChange};
-    ghost use Rattle.tablet_view.specs.LogParts.{all_in, mutation_in};
+    ghost use Rattle.std.specs.Prelude.{◌≡◌, ◌<◌, ◌^◌, List, length};
+    ghost use Rattle.tablet_model.specs.Cell.{Cell};
+    ghost use Rattle.tablet_view.specs.LogParts.{all_in};
     ghost use Rattle.tablet_model.specs.Runs.{AreHalving};
 
-    ghost Value = { List RowChange };
+    ghost Value = { List (List Cell) };
 
-    ghost view = { λ l. map mutation_in (all_in l.runs.items) };
+    ghost view = { λ l. all_in l.runs.items };
 
     ghost invariant = { λ l. AreHalving (λ run. length run) l.runs.items × (l.count ≡ length (all_in l.runs.items)) × (l.count < 2 ^ 64) };
 }
@@ -45,7 +46,7 @@ impl Log {
     /// The log with a mutation at its end, of which these are the entries. It takes memory for the log's runs.
     pub(crate) fn with(&self, alloc: Global, entries: Entries) -> Result<Log, NoMemory>
         requires { length self.now + 1 < 2 ^ 64 }
-        ensures { IfOk result (λ log. log ≡ self.now ++ mutation_in entries ∷ []) }
+        ensures { IfOk result (λ log. log ≡ self.now ++ entries ∷ []) }
     {
         let mut runs = shared(alloc, &self.runs)?;
         let last = Run::of(alloc, entries)?;
@@ -70,11 +71,11 @@ impl Log {
         self.runs.len() as u32
     }
 
-    /// Whether the other log's mutations stand at the beginning of this one. It takes no memory.
-    pub(crate) fn begins_with(&self, other: &Log) -> bool
-        ensures { IsTrue result ↔ BeginsWith self.now other.now }
+    /// Whether the other log's mutations, under a configuration, stand at the beginning of this one. It takes no memory.
+    pub(crate) fn begins_with(&self, other: &Log, config: &Config) -> bool
+        ensures { IsTrue result ↔ BeginsWith (map (mutation_in config.now) self.now) (map (mutation_in config.now) other.now) }
     {
-        self.count >= other.count && begin_alike(&self.runs, &other.runs, other.count)
+        self.count >= other.count && begin_alike(config, &self.runs, &other.runs, other.count)
     }
 }
 
@@ -110,14 +111,14 @@ fn push_joined(alloc: Global, runs: &mut Vec<Run>, last: Run) -> Result<(), NoMe
     Ok(())
 }
 
-/// Whether the first mutations of two lists of runs are the same, so many of them.
-fn begin_alike(runs: &[Run], others: &[Run], count: usize) -> bool
+/// Whether the first mutations of two lists of runs are the same under a configuration, so many of them.
+fn begin_alike(config: &Config, runs: &[Run], others: &[Run], count: usize) -> bool
     requires here { count ≤ length (all_in runs.now) }
     requires there { count ≤ length (all_in others.now) }
-    ensures { IsTrue result ↔ (take count (map mutation_in (all_in runs.now)) ≡ take count (map mutation_in (all_in others.now))) }
+    ensures { IsTrue result ↔ (take count (map (mutation_in config.now) (all_in runs.now)) ≡ take count (map (mutation_in config.now) (all_in others.now))) }
 {
     for i in 0..count {
-        if !same_mutation(mutation_at(runs, i), mutation_at(others, i)) {
+        if !same_mutation(config, mutation_at(runs, i), mutation_at(others, i)) {
             return false;
         }
     }

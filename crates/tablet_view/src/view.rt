@@ -224,7 +224,7 @@ impl View {
     pub fn begins_with(&self, other: &View) -> bool
         ensures { IsTrue result ↔ ((self.now.config ≡ other.now.config) × BeginsWith self.now.log other.now.log) }
     {
-        self.config.same(&other.config) && self.log.begins_with(&other.log)
+        self.config.same(&other.config) && self.log.begins_with(&other.log, &self.config)
     }
 
     /// The number of mutations that came in. It takes no memory.

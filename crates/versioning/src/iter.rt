@@ -26,7 +26,7 @@ pub fn version_iter<S: SortedSource>(
     requires some { 1 ≤ max }
     requires few { max ≤ 1000 }
     ensures { IfOk result (λ it. IsCopy (versions max (S.cells source)) (S.steady source)
-        (staged_cells S.cells version_made it) (staged_rest S.rest keeps passed it)
+        (staged_cells S.cells version_made it) (staged_rest S.rest keeps after_entry it)
         (staged_steady S.steady it) (staged_valid S.valid it)) }
 {
     Ok(Staged::new(source, VersionStage::new(alloc, max)?))

@@ -5,8 +5,8 @@ use Rattle.iter_config.specs.declared.iter_spec.IterSpec.{IterSpec}
 use Rattle.iter_config.proofs.Repeats.{IsDistinct-from_first_clash, distinct-from_first_beyond_scans, prefixes-from_first_gap, scans-from_first_beyond_scans, scans-from_first_unscanned}
 use Rattle.iter_config.proofs.document.in_order.Goals as goal
 
-pub of-requires : goal.of-requires
-of-requires c =
+pub returns-clause-rules : goal.returns-clause-rules
+returns-clause-rules c =
     let number : List IterSpec → IterSpec → ℕ = λ before s. number_by c.args.priorities.now s in
     record {
       few = c.requires.few;

@@ -1,6 +1,5 @@
 use Rattle.std.proofs.Common.{◌≤◌, ◌+◌, ◌^◌, ◌∙◌, length, ap, subst, sym, arith}
-use Rattle.std.proofs.lemmas.List.{length-map}
-use Rattle.tablet_view.specs.LogParts.{all_in, mutation_in}
+use Rattle.tablet_view.specs.LogParts.{all_in}
 use Rattle.tablet_view.proofs.RunLists.{places_few, runs_few}
 use Rattle.tablet_view.proofs.log.Log.runs.Goals as goal
 
@@ -14,5 +13,4 @@ pub returns : goal.returns
 returns c =
     let few = runs_few c.self.inside.runs.items c.self.invariant.0 in
     let mutations = ap length c.self.view_is in
-    let same = length-map (all_in c.self.inside.runs.items) mutation_in in
-    subst (λ n. 2 ^ n ≤ length c.args.self.now + 1) (sym (c.len.ensures ∙ c.self.inside.runs.ok.0)) (subst (λ n. 2 ^ length c.self.inside.runs.items ≤ n + 1) (sym same ∙ mutations) few)
+    subst (λ n. 2 ^ n ≤ length c.args.self.now + 1) (sym (c.len.ensures ∙ c.self.inside.runs.ok.0)) (subst (λ n. 2 ^ length c.self.inside.runs.items ≤ n + 1) mutations few)

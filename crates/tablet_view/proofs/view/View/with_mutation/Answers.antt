@@ -9,7 +9,7 @@ use Rattle.cell_key.specs.declared.mutation.Mutation.{Mutation}
 use Rattle.iter_config.specs.RulesOf.{rules_of}
 use Rattle.tablet_view.specs.LogParts.{mutation_in}
 use Rattle.tablet_view.specs.Snapshot.{IsStanding, Snapshot, refused_by}
-use Rattle.tablet_view.proofs.Logs.{said}
+use Rattle.tablet_view.proofs.Logs.{said_by_entries}
 use Rattle.tablet_view.proofs.Standing.{standing_applied}
 use Rattle.tablet_view.proofs.view.View.with_mutation.Goals as goal
 
@@ -35,11 +35,12 @@ add-requires-clause-few c =
 
 pub returns : goal.returns
 returns c =
-    let room = room_left (rules_of c.args.self.now.config) (length c.args.self.now.log) (row_change_of c.args.mutation.now) c.requires.free in
-    let some = (inside (row_change_of c.args.mutation.now) (bounds_of c.args.self.now c.args.mutation.now c.requires.free)).some_changes in
-    let updates : 1 ≤ length c.args.mutation.now.updates = omega (arith, some, length-map c.args.mutation.now.updates change_of) in
-    let log : mutation_in c.in_ok-entries.entries ≡ row_change_of c.args.mutation.now = ap mutation_in c.in_ok-entries.ensures ∙ said _ c.args.mutation.now updates in
-    grind (arith, common_steps, room, log)
+    let config = c.args.self.now.config in
+    let m = row_change_of c.args.mutation.now in
+    let room = room_left (rules_of config) (length c.args.self.now.log) m c.requires.free in
+    let some = (inside m (bounds_of c.args.self.now c.args.mutation.now c.requires.free)).some_changes in
+    let said : mutation_in config c.in_ok-entries.entries ≡ m = ap (mutation_in config) c.in_ok-entries.ensures ∙ said_by_entries config (length c.args.self.now.log) _ m some c.requires.free in
+    grind (arith, common_steps, room, said)
 
 pub invariant_of-result : goal.invariant_of-result
 invariant_of-result c = subst IsStanding (sym (returns c)) (standing_applied c.args.self.now (row_change_of c.args.mutation.now) c.requires.free (subst IsStanding c.self.view_is c.self.invariant))

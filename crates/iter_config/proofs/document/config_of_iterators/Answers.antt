@@ -1,7 +1,7 @@
 use Rattle.std.proofs.Common.{sym, ◌∙◌}
 use Rattle.iter_config.specs.Rules.{own_number, same_name, same_priority}
 use Rattle.iter_config.proofs.Repeats.{IsDistinct-from_first_clash}
-use Rattle.iter_config.proofs.document.accepted.Goals as goal
+use Rattle.iter_config.proofs.document.config_of_iterators.Goals as goal
 
 pub in_priority_order-requires-clause-names : goal.in_priority_order-requires-clause-names
 in_priority_order-requires-clause-names c =
