@@ -14,12 +14,6 @@ unfolding first_where
 first_agrees p q at [] h = refl
 first_agrees p q at (u ∷ us) h = ap (λ b. cond b (Some at) (first_where p (at + 1) us)) h.0 ∙ ap (λ o. cond (q u) (Some at) o) (first_agrees p q (at + 1) us h.1)
 
--- a test that holds of none finds none
-pub first_nowhere : (p : Change → Bool) (at : ℕ) (us : List Change) → AllByRecursion (λ u. p u ≡ false) us → first_where p at us ≡ None
-unfolding first_where
-first_nowhere p at [] h = refl
-first_nowhere p at (u ∷ us) h = ap (λ b. cond b (Some at) (first_where p (at + 1) us)) h.0 ∙ first_nowhere p (at + 1) us h.1
-
 -- the search at the place that it has come to
 pub where_at : (p : Change → Bool) (us : List Update) (i : ℕ) (u : Update) (t : Bool) → i < length us → u ≡ get_or us i u → p (change_of u) ≡ t
     → first_where p (i + 1) (map change_of (drop i us)) ≡ cond t (Some (i + 1)) (first_where p (i + 1 + 1) (map change_of (drop (i + 1) us)))

@@ -6,7 +6,7 @@ ghost use Rattle.tablet_model.specs.Ingest.{first_twice, first_where, ingest, is
 ghost use Rattle.cell_key.specs.Mutations.{change_of, row_change_of};
 ghost use Rattle.iter_config.specs.RulesOf.{rules_of};
 ghost use Rattle.ingest.specs.Refusals.{refusal_of};
-ghost use Rattle.ingest.specs.Checks.{first_broken, is_refused_delete, is_unread};
+ghost use Rattle.ingest.specs.Checks.{first_broken, is_mistimed, is_refused_delete, is_unread};
 
 use crate::bounds::out_of_bounds;
 use crate::refused::Refused;
@@ -53,6 +53,18 @@ fn is_refused_delete(config: &Config, update: &Update) -> bool
     update.value.is_none() && config.refuses_delete(update.family.bytes(), update.qualifier.bytes())
 }
 
+/// Whether an update brings a time where it may not, or lacks one where it has to bring it.
+fn is_mistimed(config: &Config, update: &Update) -> bool
+    ensures { result ≡ is_mistimed config.now (change_of update.now) }
+{
+    let is_timed = config.is_timed(update.family.bytes());
+    if update.time.is_some() {
+        update.value.is_none() || !is_timed
+    } else {
+        update.value.is_some() && is_timed
+    }
+}
+
 /// Whether an update puts a value that the configuration doesn't read.
 fn is_unread(config: &Config, update: &Update) -> bool
     ensures { result ≡ is_unread config.now (change_of update.now) }
@@ -74,6 +86,19 @@ fn first_refused_delete(config: &Config, updates: &[Update]) -> Option<u32>
 {
     for i in 0..updates.len() {
         if is_refused_delete(config, &updates[i]) {
+            return Some(i as u32 + 1);
+        }
+    }
+    None
+}
+
+/// The number of the first update that brings a time where it may not, or lacks one where it has to bring it.
+fn first_mistimed(config: &Config, updates: &[Update]) -> Option<u32>
+    requires { length updates.now ≤ max_changes }
+    ensures { result ≡ first_where (is_mistimed config.now) 1 (map change_of updates.now) }
+{
+    for i in 0..updates.len() {
+        if is_mistimed(config, &updates[i]) {
             return Some(i as u32 + 1);
         }
     }
@@ -106,6 +131,9 @@ fn first_broken(config: &Config, log: u64, mutation: &Mutation) -> Option<Refuse
     }
     if let Some(at) = first_refused_delete(config, updates) {
         return Some(Refused::DeleteHere { at });
+    }
+    if let Some(at) = first_mistimed(config, updates) {
+        return Some(Refused::Time { at });
     }
     if let Some(at) = first_unread(config, updates) {
         return Some(Refused::Value { at });

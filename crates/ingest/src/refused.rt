@@ -12,6 +12,9 @@ pub enum Refused {
     Duplicate { at: u32 },
     /// It deletes in a column in which the configuration refuses deletes.
     DeleteHere { at: u32 },
+    /// It brings a time of its own where it may not: it is a delete, or its family isn't timed. Or it lacks one where it has
+    /// to bring it: it is a put in a timed family.
+    Time { at: u32 },
     /// It puts a value that the configuration doesn't read.
     Value { at: u32 },
     /// The log has 524,288 mutations.
