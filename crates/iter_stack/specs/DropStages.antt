@@ -35,16 +35,16 @@ drop_keeps (drop.Versions s) e = versions.keeps s e
 -- where it is behind an entry
 abbrev pub drop_passed : DropStage → Cell → DropStage
 drop_passed (drop.Live s) e = drop.Live (live_passed s e)
-drop_passed (drop.Mark s) e = drop.Mark (marks.passed s e)
+drop_passed (drop.Mark s) e = drop.Mark (marks.after_entry s e)
 drop_passed (drop.Filter s) e = drop.Filter s
-drop_passed (drop.Versions s) e = drop.Versions (versions.passed s e)
+drop_passed (drop.Versions s) e = drop.Versions (versions.after_entry s e)
 
 -- where it is before a list
 abbrev pub drop_restarted : DropStage → DropStage
 drop_restarted (drop.Live s) = drop.Live (live_unhidden s)
-drop_restarted (drop.Mark s) = drop.Mark (marks.unhidden s)
+drop_restarted (drop.Mark s) = drop.Mark (marks.without_hidden s)
 drop_restarted (drop.Filter s) = drop.Filter s
-drop_restarted (drop.Versions s) = drop.Versions (versions.uncounted s)
+drop_restarted (drop.Versions s) = drop.Versions (versions.without_count s)
 
 -- whether a seek begins with a whole column
 abbrev pub drop_wide : DropStage → Bool
@@ -60,13 +60,13 @@ drop_pass (drop.Live s) list up =
     wrapped_pass live_keeps live_passed drop_keeps drop_passed (λ t. drop.Live t) (λ t e. refl) (λ t e. refl) (live_unhidden s) list
     ∙ live_pass s list up
 drop_pass (drop.Mark s) list up =
-    wrapped_pass marks.keeps marks.passed drop_keeps drop_passed (λ t. drop.Mark t) (λ t e. refl) (λ t e. refl) (marks.unhidden s) list
+    wrapped_pass marks.keeps marks.after_entry drop_keeps drop_passed (λ t. drop.Mark t) (λ t e. refl) (λ t e. refl) (marks.without_hidden s) list
     ∙ mark_pass s list up
 drop_pass (drop.Filter s) list up =
     wrapped_pass passes same drop_keeps drop_passed (λ t. drop.Filter t) (λ t e. refl) (λ t e. refl) s list
     ∙ filter_pass s list
 drop_pass (drop.Versions s) list up =
-    wrapped_pass versions.keeps versions.passed drop_keeps drop_passed (λ t. drop.Versions t) (λ t e. refl) (λ t e. refl) (versions.uncounted s) list
+    wrapped_pass versions.keeps versions.after_entry drop_keeps drop_passed (λ t. drop.Versions t) (λ t e. refl) (λ t e. refl) (versions.without_count s) list
     ∙ version_pass s list up
 
 -- what a seek reads gives what the range has of what it makes of all
