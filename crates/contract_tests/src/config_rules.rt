@@ -17,7 +17,7 @@ fn refusal(alloc: Global, text: &[u8]) -> Result<Option<(Rule, u32)>, NoMemory> 
 }
 
 /// Documents, and the rule that each breaks with the number, if it is refused.
-const DOCUMENTS: [(&[u8], Option<(Rule, u32)>); 12] = [
+const DOCUMENTS: [(&[u8], Option<(Rule, u32)>); 16] = [
     (b"", None),
     (b"# nothing\n", None),
     (b"iterator = []", None),
@@ -25,7 +25,11 @@ const DOCUMENTS: [(&[u8], Option<(Rule, u32)>); 12] = [
     (b"# \xff", Some((Rule::Toml, 0))),
     (b"colour = 9223372036854775808", Some((Rule::Toml, 0))),
     (b"colour = 1", Some((Rule::Field, 0))),
-    (b"timed = ['a']", Some((Rule::Field, 0))),
+    (b"timed = ['a', 'a\\x20b']", None),
+    (b"timed = 1", Some((Rule::Field, 0))),
+    (b"timed = []", Some((Rule::Field, 0))),
+    (b"timed = ['a', 1]", Some((Rule::Field, 0))),
+    (b"timed = []\niterator = [2]", Some((Rule::Field, 0))),
     (b"iterator = 1", Some((Rule::Field, 0))),
     (b"[iterator]\nname = 'vers'", Some((Rule::Field, 0))),
     (b"colour = 1\niterator = [2]", Some((Rule::Field, 0))),
@@ -33,7 +37,7 @@ const DOCUMENTS: [(&[u8], Option<(Rule, u32)>); 12] = [
 ];
 
 #[test]
-fn documents_have_one_array(rt: HostRuntime) -> Result<(), NoMemory> {
+fn documents_have_iterators_and_timed_families(rt: HostRuntime) -> Result<(), NoMemory> {
     for (i, (text, want)) in DOCUMENTS.iter().enumerate() {
         assert!(rt; refusal(rt.alloc(), text)? == *want, "{i}");
     }

@@ -36,6 +36,7 @@ fn mutation(alloc: Global, row: u8, family: u8, value: Option<u8>) -> Result<Mut
         family: ByteText::of(alloc, &[family])?,
         qualifier: ByteText::new(alloc),
         visibility: ByteText::new(alloc),
+        time: None,
         value,
     })?;
     let row = ByteText::of(alloc, &[row])?;

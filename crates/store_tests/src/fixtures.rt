@@ -37,6 +37,7 @@ fn update(alloc: Global, change: &Change) -> Result<Update, NoMemory> {
         family: ByteText::of(alloc, &[family])?,
         qualifier: ByteText::new(alloc),
         visibility: ByteText::new(alloc),
+        time: None,
         value,
     })
 }
