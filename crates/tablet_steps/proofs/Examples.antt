@@ -1,7 +1,7 @@
 -- Worked answers.
 use Rattle.std.proofs.Common.{◌≡◌, codes, true, refl}
 use Rattle.std.specs.Fmt.{digits}
-use Rattle.tablet_model.specs.Ingest.{bound, updates_part}
+use Rattle.tablet_model.specs.Ingest.{bound, time_here, updates_part}
 use Rattle.tablet_model.specs.Steps.{applied, finished, in_job, refused, started}
 use Rattle.tablet_steps.specs.Texts.{answer_line, refusal_line}
 use Rattle.tablet_steps.specs.declared.refusal.LineRefusal.TheVariants.{Syntax}
@@ -20,6 +20,9 @@ ended_job = refl
 
 bound_refusal : answer_line (refused (bound 0 updates_part)) ≡ codes "no bound updates\n"
 bound_refusal = refl
+
+time_refusal : answer_line (refused (time_here 2)) ≡ codes "no time\n"
+time_refusal = refl
 
 job_refusal : answer_line (in_job 12 3) ≡ codes "no in-job f12 j3\n"
 unfolding digits

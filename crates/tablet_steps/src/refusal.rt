@@ -67,6 +67,7 @@ fn append_refused(text: &mut ByteText, refused: Refused) -> Result<(), NoMemory>
         Refused::Bound { part, .. } => append_no(text, b"bound ", part_word(part)),
         Refused::Duplicate { .. } => append_no(text, b"duplicate", b""),
         Refused::DeleteHere { .. } => append_no(text, b"delete", b""),
+        Refused::Time { .. } => append_no(text, b"time", b""),
         Refused::Value { .. } => append_no(text, b"value", b""),
         Refused::Full => append_no(text, b"full", b""),
     }
