@@ -1,5 +1,5 @@
 -- Worked scripts, and the text that answers them.
-use Rattle.std.proofs.Common.{◌≡◌, true, false, [], ◌∷◌, codes, None, refl}
+use Rattle.std.proofs.Common.{◌≡◌, true, false, List, [], ◌∷◌, codes, None, refl}
 use Rattle.std.specs.Fmt.{digits}
 use Rattle.tablet_model.specs.Order.{above, cell_cmp, column_cmp, key_cmp, same_column, time_cmp}
 use Rattle.tablet_model.specs.Sorted.{put, sorted}
@@ -16,8 +16,9 @@ use Rattle.cell_key.specs.Listed.{column_listed}
 use Rattle.number_values.specs.Values.{reduction_of}
 use Rattle.number_values.specs.declared.op.Encoding.TheVariants as encoding
 use Rattle.number_values.specs.declared.op.Op.TheVariants as op
-use Rattle.iter_config.specs.Columns.{refuses_delete}
+use Rattle.iter_config.specs.Columns.{one_refuses}
 use Rattle.iter_config.specs.RulesOf.{rules_of}
+use Rattle.iter_config.specs.Settings.{Settings}
 use Rattle.iter_config.specs.declared.iter_spec.Deletes.TheVariants as deletes
 use Rattle.iter_config.specs.declared.iter_spec.IterSpec.{IterSpec}
 use Rattle.iter_config.specs.declared.iter_spec.Kind.TheVariants.{Combine, Versions}
@@ -27,36 +28,40 @@ use Rattle.script_text.specs.Lines.{lines_of}
 use Rattle.script_text.specs.Scans.{range_in_brackets, families_of, optional_row, range_of, rows_between, short_text}
 use Rattle.tablet_replay.specs.Replay.{after_line, line_answer, log_behind, replayed_none, script_answers}
 
-one_scan : script_answers (replayed_none []) (lines_of (codes "m r1 +a:x:=1\nscan\n")) ≡ codes "m 1\nat 1\nr1 a:x: @1 =1\nend 1\n"
-unfolding digits put_of update_of mutation_of scan_line reading_of line_by_word entry_line found_text line_answer after_line answer_to_step store_after log_behind refuse step step_answer empty_store rules_of stages ingest out_of_bounds first_too_long too_long first_twice first_where is_refused_delete is_mistimed is_unread is_read answer scan_of history_entries sorted put above cell_cmp key_cmp column_cmp time_cmp live is_live hides marker_beside same_column
+-- a configuration without timed families
+plain : List IterSpec → Settings
+plain specs = record { iterators = specs; timed = [] }
+
+one_scan : script_answers (replayed_none (plain [])) (lines_of (codes "m r1 +a:x:=1\nscan\n")) ≡ codes "m 1\nat 1\nr1 a:x: @1 =1\nend 1\n"
+unfolding plain digits put_of update_of mutation_of scan_line reading_of line_by_word entry_line found_text line_answer after_line answer_to_step store_after log_behind refuse step step_answer empty_store rules_of stages ingest out_of_bounds first_too_long too_long first_twice first_where is_refused_delete is_mistimed is_unread is_read answer scan_of history_entries sorted put above cell_cmp key_cmp column_cmp time_cmp live is_live hides marker_beside same_column
 one_scan = refl
 
 -- a delete has the time of its mutation, and hides the put beside it
-a_delete : script_answers (replayed_none []) (lines_of (codes "m r1 +a:x:=1 -a:x:\nscan\n")) ≡ codes "m 1\nend 1\n"
-unfolding digits put_of delete_of update_of mutation_of scan_line reading_of line_by_word entry_line found_text line_answer after_line answer_to_step store_after log_behind refuse step step_answer empty_store rules_of stages ingest out_of_bounds first_too_long too_long first_twice first_where is_twin is_refused_delete refuses_delete is_mistimed is_unread is_read answer scan_of history_entries sorted put above cell_cmp key_cmp column_cmp time_cmp live is_live hides marker_beside same_column
+a_delete : script_answers (replayed_none (plain [])) (lines_of (codes "m r1 +a:x:=1 -a:x:\nscan\n")) ≡ codes "m 1\nend 1\n"
+unfolding plain digits put_of delete_of update_of mutation_of scan_line reading_of line_by_word entry_line found_text line_answer after_line answer_to_step store_after log_behind refuse step step_answer empty_store rules_of stages ingest out_of_bounds first_too_long too_long first_twice first_where is_twin is_refused_delete one_refuses is_mistimed is_unread is_read answer scan_of history_entries sorted put above cell_cmp key_cmp column_cmp time_cmp live is_live hides marker_beside same_column
 a_delete = refl
 
 -- a refused line changes nothing
-refused_lines : script_answers (replayed_none []) (lines_of (codes "hello\n\nm r1 +a:x\nm r1\n# note\nfreeze\nscan")) ≡ codes "no syntax\nno syntax\nno bound updates\nno empty\nend 0\n"
-unfolding digits put_of update_of mutation_of scan_line reading_of line_by_word entry_line found_text line_answer after_line answer_to_step store_after log_behind refuse is_empty step step_answer empty_store rules_of stages ingest out_of_bounds first_too_long too_long answer scan_of history_entries sorted live
+refused_lines : script_answers (replayed_none (plain [])) (lines_of (codes "hello\n\nm r1 +a:x\nm r1\n# note\nfreeze\nscan")) ≡ codes "no syntax\nno syntax\nno bound updates\nno empty\nend 0\n"
+unfolding plain digits put_of update_of mutation_of scan_line reading_of line_by_word entry_line found_text line_answer after_line answer_to_step store_after log_behind refuse is_empty step step_answer empty_store rules_of stages ingest out_of_bounds first_too_long too_long answer scan_of history_entries sorted live
 refused_lines = refl
 
-a_duplicate : script_answers (replayed_none []) (lines_of (codes "m r1 +a:x:=1 +a:x:=2\n")) ≡ codes "no duplicate\n"
-unfolding digits put_of update_of mutation_of reading_of line_by_word line_answer after_line answer_to_step store_after log_behind refuse step step_answer empty_store rules_of stages ingest out_of_bounds first_too_long too_long first_twice is_twin
+a_duplicate : script_answers (replayed_none (plain [])) (lines_of (codes "m r1 +a:x:=1 +a:x:=2\n")) ≡ codes "no duplicate\n"
+unfolding plain digits put_of update_of mutation_of reading_of line_by_word line_answer after_line answer_to_step store_after log_behind refuse step step_answer empty_store rules_of stages ingest out_of_bounds first_too_long too_long first_twice is_twin
 a_duplicate = refl
 
 -- ranges of rows, and families
-some_scans : script_answers (replayed_none []) (lines_of (codes "m r1 +a:x:=1\nm r2 +b:x:=2\nscan [r1,r2)\nscan [r2,)\nscan * fams=b\nscan (r1,r1)\n"))
+some_scans : script_answers (replayed_none (plain [])) (lines_of (codes "m r1 +a:x:=1\nm r2 +b:x:=2\nscan [r1,r2)\nscan [r2,)\nscan * fams=b\nscan (r1,r1)\n"))
     ≡ codes "m 1\nm 2\nat 2\nr1 a:x: @1 =1\nend 2\nat 2\nr2 b:x: @2 =2\nend 2\nat 2\nr2 b:x: @2 =2\nend 2\nend 2\n"
-unfolding digits put_of update_of mutation_of scan_line reading_of line_by_word range_of range_in_brackets rows_between optional_row short_text families_of entry_line found_text line_answer after_line answer_to_step store_after log_behind refuse step step_answer empty_store rules_of stages ingest out_of_bounds first_too_long too_long first_twice first_where is_refused_delete is_mistimed is_unread is_read answer scan_of history_entries sorted put above cell_cmp key_cmp column_cmp time_cmp live is_live hides marker_beside same_column
+unfolding plain digits put_of update_of mutation_of scan_line reading_of line_by_word range_of range_in_brackets rows_between optional_row short_text families_of entry_line found_text line_answer after_line answer_to_step store_after log_behind refuse step step_answer empty_store rules_of stages ingest out_of_bounds first_too_long too_long first_twice first_where is_refused_delete is_mistimed is_unread is_read answer scan_of history_entries sorted put above cell_cmp key_cmp column_cmp time_cmp live is_live hides marker_beside same_column
 some_scans = refl
 
 -- the newest version of each column in scans
 newest_version : IterSpec
 newest_version = record { name = codes "vers"; priority = 20; kind = Versions 1; scopes = record { scan = true; minc = false; majc = false } }
 
-two_versions : script_answers (replayed_none (newest_version ∷ [])) (lines_of (codes "m r1 +a:x:=1\nm r1 +a:x:=2\nscan\n")) ≡ codes "m 1\nm 2\nat 2\nr1 a:x: @2 =2\nend 2\n"
-unfolding digits put_of update_of mutation_of scan_line reading_of line_by_word entry_line found_text line_answer after_line answer_to_step store_after log_behind refuse step step_answer empty_store rules_of stages ingest out_of_bounds first_too_long too_long first_twice first_where is_refused_delete is_mistimed is_unread is_read answer scan_of history_entries sorted put above cell_cmp key_cmp column_cmp time_cmp live is_live hides marker_beside same_column stage versions filter_beside is_recent put_beside newest_version
+two_versions : script_answers (replayed_none (plain (newest_version ∷ []))) (lines_of (codes "m r1 +a:x:=1\nm r1 +a:x:=2\nscan\n")) ≡ codes "m 1\nm 2\nat 2\nr1 a:x: @2 =2\nend 2\n"
+unfolding plain digits put_of update_of mutation_of scan_line reading_of line_by_word entry_line found_text line_answer after_line answer_to_step store_after log_behind refuse step step_answer empty_store rules_of stages ingest out_of_bounds first_too_long too_long first_twice first_where is_refused_delete is_mistimed is_unread is_read answer scan_of history_entries sorted put above cell_cmp key_cmp column_cmp time_cmp live is_live hides marker_beside same_column stage versions filter_beside is_recent put_beside newest_version
 two_versions = refl
 
 -- a sum of the family `n`, whose columns take no deletes
@@ -68,6 +73,6 @@ counter = record {
   scopes = record { scan = true; minc = true; majc = true };
 }
 
-refused_counts : script_answers (replayed_none (counter ∷ [])) (lines_of (codes "m r1 +n:x:=-1\nm r1 -n:x:\n")) ≡ codes "no value\nno delete\n"
-unfolding digits put_of delete_of update_of mutation_of reading_of line_by_word line_answer after_line answer_to_step store_after log_behind refuse step step_answer empty_store rules_of stages ingest out_of_bounds first_too_long too_long first_twice first_where is_refused_delete refuses_delete is_mistimed is_unread is_read reduction_of column_listed counter
+refused_counts : script_answers (replayed_none (plain (counter ∷ []))) (lines_of (codes "m r1 +n:x:=-1\nm r1 -n:x:\n")) ≡ codes "no value\nno delete\n"
+unfolding plain digits put_of delete_of update_of mutation_of reading_of line_by_word line_answer after_line answer_to_step store_after log_behind refuse step step_answer empty_store rules_of stages ingest out_of_bounds first_too_long too_long first_twice first_where is_refused_delete one_refuses is_mistimed is_unread is_read reduction_of column_listed counter
 refused_counts = refl
