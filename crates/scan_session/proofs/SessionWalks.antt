@@ -19,8 +19,8 @@ use Rattle.tablet_model.proofs.Risings.{Ascends-combined, Ascends-filtered, Asce
 use Rattle.tablet_model.proofs.Sums.{Ascends-filter}
 use Rattle.cell_key.specs.Listed.{column_listed, listed_of_columns}
 use Rattle.iter_config.specs.Predicates.{keeps}
-use Rattle.iter_config.specs.Stages.{stage_of, stages_of}
-use Rattle.iter_config.specs.Settings.{Settings}
+use Rattle.iter_config.specs.Stages.{stage_list, stage_of, stages_of}
+use Rattle.iter_config.specs.declared.iter_spec.IterSpec.{IterSpec}
 use Rattle.iter_config.specs.declared.iter_spec.Kind.{Kind}
 use Rattle.iter_config.specs.declared.iter_spec.Kind.TheVariants.{Filter, Versions, Combine, WholeRow, Intersecting}
 use Rattle.iter_config.proofs.FilterStages.{filter_is}
@@ -45,7 +45,7 @@ kind_ascends (Combine op columns encoding deletes) list up =
 kind_ascends WholeRow list up = Ascends-whole_rows list up
 kind_ascends (Intersecting terms without) list up = Ascends-intersected terms without list up
 
-all_ascend : (config : Settings) (list : List Cell) → Ascends above list → Ascends above (stages (stages_of config) list)
+all_ascend : (specs : List IterSpec) (list : List Cell) → Ascends above list → Ascends above (stages (stage_list specs) list)
 unfolding stages
 all_ascend [] list up = up
 all_ascend (s ∷ ss) list up = all_ascend ss (stage (stage_of s.kind) list) (kind_ascends s.kind list up)
@@ -54,7 +54,7 @@ pub answers_ascend : AnswersStandInOrder
 unfolding answer scan_of
 answers_ascend s log =
     Ascends-filter above above_exact (λ e. holds s.range e.key) (stages (stages_of s.view.config) (in_families s.families (live (history_entries log))))
-    (all_ascend s.view.config (in_families s.families (live (history_entries log)))
+    (all_ascend s.view.config.iterators (in_families s.families (live (history_entries log)))
     (Ascends-filter above above_exact (is_in s.families) (live (history_entries log)) (Ascends-live (history_entries log) (history_ascends log))))
 
 pub staying : StayingWalks
