@@ -44,9 +44,9 @@ impl FileIds {
         Ok(FileIds { ids })
     }
 
-    /// Puts a number at its place, unless it is there.
+    /// Puts a number at its place, unless it is there; without memory the numbers stay as they were.
     pub fn insert(&mut self, id: u64) -> Result<(), NoMemory>
-        ensures { OnOk result (self.new ≡ with_number id self.old) }
+        ensures { self.new ≡ (if is_ok result then with_number id self.old else self.old) }
     {
         if let Err(place) = self.ids.binary_search(&id) {
             self.ids.insert(place, id)?;

@@ -8,7 +8,7 @@ use Rattle.tablet_model.specs.Accepted.{IsDeletable, IsNotNewest, is_full}
 use Rattle.tablet_model.specs.Cell.{Cell, Column}
 use Rattle.tablet_model.specs.Rules.{AreSound}
 use Rattle.iter_config.specs.Columns.{is_timed, kind_refuses, one_refuses, refuses_delete}
-use Rattle.iter_config.specs.Limits.{IsLimited}
+use Rattle.iter_config.specs.Limits.{AreFields, IsLimited}
 use Rattle.iter_config.specs.Order.{AreIterators, IsConfig, NoneClashes}
 use Rattle.iter_config.specs.Rules.{in_base, is_cell_filter, is_combiner, is_full_combiner, is_full_under_versions, is_versions, leaves_scans, out_of_order}
 use Rattle.iter_config.specs.RulesOf.{rules_of}
@@ -20,7 +20,7 @@ use Rattle.iter_config.specs.declared.iter_spec.Kind.TheVariants.{Filter, Versio
 use Rattle.iter_config.proofs.Following.{all_short, base_accepted, one_column, scans_apart}
 use Rattle.iter_config.proofs.FilterStages.{filter_is}
 use Rattle.tablet_model.proofs.Bools.{false-of-not, neither-of-or}
-use Rattle.iter_config.proofs.Prefixes.{base_first, majc_first, minc_first, stands_first}
+use Rattle.iter_config.proofs.Prefixes.{base_first, majc_first, map_all, minc_first, stands_first}
 
 -- the iterators of major compactions
 abbrev majors : List IterSpec → List IterSpec
@@ -139,7 +139,7 @@ majc_in_base s h = go s.scopes.minc
 pub sound : (c : Settings) → IsConfig c → AreSound (rules_of c)
 unfolding rules_of
 sound c config = record {
-  accepted = base_accepted specs (recursion_from_All (λ s. IsLimited s.kind) specs h.limits) (recursion_from_All (λ s. leaves_scans s ≡ false) specs h.in_scans) h.base_order h.apart;
+  accepted = base_accepted specs (map_all AreFields (λ s. IsLimited s.kind) (λ s k. k.kind) specs (recursion_from_All AreFields specs h.limits)) (recursion_from_All (λ s. leaves_scans s ≡ false) specs h.in_scans) h.base_order h.apart;
   short = all_short (filter in_base specs);
   apart = scans_apart specs (base_first specs h.prefixes) h.apart;
   minor_first = stands_first (λ s. s.scopes.minc) minc_in_base specs (minc_first specs h.prefixes);

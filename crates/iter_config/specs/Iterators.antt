@@ -7,6 +7,7 @@ use Rattle.number_values.specs.declared.op.Op.{Op}
 use Rattle.iter_config.specs.Combiners.{combiner_of, op_of}
 use Rattle.iter_config.specs.Fields.{keys_within, name_in, number_in, scopes_in, shared_keys}
 use Rattle.iter_config.specs.Filters.{filter_of}
+use Rattle.iter_config.specs.Limits.{max_priority}
 use Rattle.iter_config.specs.ScanOnly.{whole_row_of, intersecting_of}
 use Rattle.iter_config.specs.declared.iter_spec.Kind.{Kind}
 use Rattle.iter_config.specs.declared.iter_spec.Kind.TheVariants.{Versions}
@@ -36,7 +37,7 @@ unfoldable pub iterator_of : Data → Option IterSpec
 iterator_of d = do
   ms ← as_table d
   name ← get_member (codes "name") ms >>= name_in
-  priority ← get_member (codes "priority") ms >>= number_in 1 2147483647
+  priority ← get_member (codes "priority") ms >>= number_in 1 max_priority
   scopes ← get_member (codes "scopes") ms >>= scopes_in
   word ← get_member (codes "kind") ms >>= as_str
   kind ← kind_of word ms

@@ -1,11 +1,17 @@
 -- The limits of an iterator's fields. All of this is this project's own.
-use Rattle.std.specs.Prelude.{ℕ, ◌+◌, ◌≤◌, List, length, All, IfSome, ⊤}
+use Rattle.std.specs.Prelude.{◌≡◌, ℕ, ◌+◌, ◌≤◌, true, List, length, All, IfSome, ⊤}
 use Rattle.tablet_model.specs.Limits.{max_names, max_part}
 use Rattle.cell_key.specs.declared.column_name.ColumnName.{ColumnName}
+use Rattle.iter_config.specs.Fields.{is_name}
+use Rattle.iter_config.specs.declared.iter_spec.IterSpec.{IterSpec}
 use Rattle.iter_config.specs.declared.iter_spec.Kind.{Kind}
 use Rattle.iter_config.specs.declared.iter_spec.Kind.TheVariants.{Filter, Versions, Combine, WholeRow, Intersecting}
 use Rattle.iter_config.specs.declared.predicate.Predicate.{Predicate}
 use Rattle.iter_config.specs.declared.predicate.Predicate.TheVariants.{Family, QualifierSlice, VisibilitySet, Grep, Times}
+
+-- the highest priority
+abbrev pub max_priority : ℕ
+max_priority = 2147483647
 
 -- a name has at most 1,024 bytes
 abbrev pub IsShortName : List ℕ → Type 0
@@ -46,3 +52,9 @@ IsLimited (Versions max) = (1 ≤ max) × (max ≤ 1000)
 IsLimited (Combine op columns encoding deletes) = AreColumns columns
 IsLimited WholeRow = ⊤
 IsLimited (Intersecting terms without) = AreTerms terms without
+
+-- the fields of an iterator are within their limits
+pub record AreFields (s : IterSpec) : Type 0 where
+  pub name : is_name s.name ≡ true
+  pub priority : (1 ≤ s.priority) × (s.priority ≤ max_priority)
+  pub kind : IsLimited s.kind

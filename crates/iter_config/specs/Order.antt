@@ -3,7 +3,7 @@ use Rattle.std.specs.Prelude.{◌≡◌, ◌≤◌, Bool, true, false, nat_lt, L
 use Rattle.std.specs.List.{IsDistinct}
 use Rattle.std.specs.List.Sorted.{IsNonDecreasingBy}
 use Rattle.tablet_model.specs.Sorted.{sorted}
-use Rattle.iter_config.specs.Limits.{AreTimed, IsLimited}
+use Rattle.iter_config.specs.Limits.{AreFields, AreTimed}
 use Rattle.iter_config.specs.Rules.{combines_behind, is_full_under_versions, leaves_gap, leaves_scans, out_of_order, same_name, same_priority, shares_column}
 use Rattle.iter_config.specs.Settings.{Settings}
 use Rattle.iter_config.specs.declared.iter_spec.IterSpec.{IterSpec}
@@ -26,7 +26,7 @@ NoneClashes clash specs = IsDistinct clash specs
 -- deletes
 pub record AreIterators (specs : List IterSpec) : Type 0 where
   pub few : length specs ≤ 16
-  pub limits : All (λ s. IsLimited s.kind) specs
+  pub limits : All AreFields specs
   pub names : NoneClashes same_name specs
   pub priorities : NoneClashes same_priority specs
   pub order : IsNonDecreasingBy (λ s. s.priority) specs

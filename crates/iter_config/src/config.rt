@@ -2,7 +2,7 @@
 ghost use Rattle.std.specs.Prelude.{◌≡◌, ◌↔◌, ◌<◌, IsTrue, Some, length, slice_get};
 ghost use Rattle.std.specs.List.{list_all, list_any};
 ghost use Rattle.iter_config.specs.Columns.{all_read, is_timed, kind_reads, kind_refuses, one_refuses, reads_value, refuses_delete};
-ghost use Rattle.iter_config.specs.Limits.{AreTimed, IsLimited};
+ghost use Rattle.iter_config.specs.Limits.{AreFields, AreTimed};
 ghost use Rattle.iter_config.specs.Order.{AreIterators, IsConfig};
 
 use crate::equality::{same_iterators, same_names};
@@ -54,7 +54,7 @@ impl Config {
     pub fn iterator(&self, i: usize) -> &IterSpec
         requires { i < length self.now.iterators }
         ensures element { slice_get self.now.iterators i ≡ Some result.now }
-        ensures limits { IsLimited result.now.kind }
+        ensures limits { AreFields result.now }
     {
         &self.iterators[i]
     }

@@ -4,7 +4,7 @@ ghost use Rattle.std.specs.List.Sorted.{IsNonDecreasingBy};
 ghost use Rattle.toml.specs.View.{table_view};
 ghost use Rattle.iter_config.specs.Document.{config_of, config_of_iterators, config_of_members, in_order, iterators_of, priorities_of};
 ghost use Rattle.iter_config.specs.Faults.{Reads};
-ghost use Rattle.iter_config.specs.Limits.{IsLimited};
+ghost use Rattle.iter_config.specs.Limits.{AreFields};
 ghost use Rattle.iter_config.specs.Order.{AreIterators, NoneClashes, in_priority_order};
 ghost use Rattle.iter_config.specs.Rules.{same_name, same_priority};
 ghost use Rattle.iter_config.specs.declared.error.ConfigError.TheVariants as error;
@@ -25,7 +25,7 @@ use toml::value::Table;
 fn iterators_of(alloc: Global, table: &Table) -> Result<Vec<IterSpec>, ConfigError>
     ensures iterators { Reads (λ v. v.items) (iterators_of (table_view table.now)) result }
     ensures few { IfOk result (λ v. length v.items ≤ MAX_ITERATORS) }
-    ensures limits { IfOk result (λ v. All (λ s. IsLimited s.kind) v.items) }
+    ensures limits { IfOk result (λ v. All AreFields v.items) }
 {
     let Some(value) = find(table, "iterator") else {
         return Ok(Vec::new(alloc));
@@ -55,12 +55,12 @@ fn broken(rule: Rule, at: u32) -> ConfigError
 
 /// The iterators in the order in which they run.
 fn in_priority_order(mut iterators: Vec<IterSpec>) -> Result<Vec<IterSpec>, NoMemory>
-    requires limits { All (λ s. IsLimited s.kind) iterators.items }
+    requires limits { All AreFields iterators.items }
     requires names { NoneClashes same_name iterators.items }
     requires priorities { NoneClashes same_priority iterators.items }
     ensures sorted { IfOk result (λ v. v.items ≡ in_priority_order iterators.items) }
     ensures count { IfOk result (λ v. length v.items ≡ length iterators.items) }
-    ensures limits { IfOk result (λ v. All (λ s. IsLimited s.kind) v.items) }
+    ensures limits { IfOk result (λ v. All AreFields v.items) }
     ensures names { IfOk result (λ v. NoneClashes same_name v.items) }
     ensures priorities { IfOk result (λ v. NoneClashes same_priority v.items) }
     ensures order { IfOk result (λ v. IsNonDecreasingBy (λ s. s.priority) v.items) }
@@ -74,7 +74,7 @@ fn in_priority_order(mut iterators: Vec<IterSpec>) -> Result<Vec<IterSpec>, NoMe
 fn in_order(priorities: &[u32], iterators: Vec<IterSpec>) -> Result<Vec<IterSpec>, ConfigError>
     requires few_priorities { length priorities.now ≤ MAX_ITERATORS }
     requires few { length iterators.items ≤ MAX_ITERATORS }
-    requires limits { All (λ s. IsLimited s.kind) iterators.items }
+    requires limits { All AreFields iterators.items }
     requires names { NoneClashes same_name iterators.items }
     requires priorities { NoneClashes same_priority iterators.items }
     requires order { IsNonDecreasingBy (λ s. s.priority) iterators.items }
@@ -106,7 +106,7 @@ fn in_order(priorities: &[u32], iterators: Vec<IterSpec>) -> Result<Vec<IterSpec
 #[tactic(auto, unfolding(crate::specs::Document::config_of_iterators))]
 fn config_of_iterators(alloc: Global, iterators: Vec<IterSpec>) -> Result<Vec<IterSpec>, ConfigError>
     requires few { length iterators.items ≤ MAX_ITERATORS }
-    requires limits { All (λ s. IsLimited s.kind) iterators.items }
+    requires limits { All AreFields iterators.items }
     ensures iterators { Reads (λ v. v.items) (config_of_iterators iterators.items) result }
     ensures rules { IfOk result (λ v. AreIterators v.items) }
 {

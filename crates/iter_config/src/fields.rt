@@ -1,5 +1,5 @@
 //! What stands in the fields of a table.
-ghost use Rattle.std.specs.Prelude.{◌≡◌, ◌≤◌, IfOk, map, option_map};
+ghost use Rattle.std.specs.Prelude.{◌≡◌, ◌≤◌, true, IfOk, map, option_map};
 ghost use Rattle.std.specs.BTreeMap.{keys};
 ghost use Rattle.std.specs.List.{list_all, list_any};
 ghost use Rattle.std.specs.Str.{bytes_eq};
@@ -111,7 +111,8 @@ fn is_name(text: &[u8]) -> bool
 
 /// The name of an iterator.
 pub fn name_in(alloc: Global, value: &Value) -> Result<ByteText, FieldError>
-    ensures { Gives (λ t. t) (name_in (view value.now)) result }
+    ensures text { Gives (λ t. t) (name_in (view value.now)) result }
+    ensures name { IfOk result (λ t. is_name t ≡ true) }
 {
     let text = text_in(value)?;
     if !is_name(text) {

@@ -3,7 +3,7 @@ ghost use Rattle.std.specs.Prelude.{◌≡◌, ◌≤◌, IfOk, All, length, map
 ghost use Rattle.toml.specs.View.{array_view, table_view, view};
 ghost use Rattle.iter_config.specs.Faults.{Gives, Reads};
 ghost use Rattle.iter_config.specs.Iterators.{iterator_of, iterators_from, kind_of, versions_of};
-ghost use Rattle.iter_config.specs.Limits.{IsLimited};
+ghost use Rattle.iter_config.specs.Limits.{AreFields, IsLimited};
 
 use crate::combiners::{combiner_of, op_of};
 use crate::error::{ConfigError, FieldError, Rule};
@@ -61,7 +61,7 @@ fn kind_of(alloc: Global, word: &[u8], table: &Table) -> Result<Kind, FieldError
 #[tactic(auto, unfolding(crate::specs::Iterators::iterator_of))]
 fn iterator_of(alloc: Global, value: &Value) -> Result<IterSpec, FieldError>
     ensures iterator { Gives (λ s. s) (iterator_of (view value.now)) result }
-    ensures limits { IfOk result (λ s. IsLimited s.kind) }
+    ensures limits { IfOk result (λ s. AreFields s) }
 {
     let table = table_in(value)?;
     let name = name_in(alloc, member(table, "name")?)?;
@@ -82,7 +82,7 @@ pub fn iterators_in(alloc: Global, items: &Array) -> Result<Vec<IterSpec>, Confi
     requires { length items.now.items ≤ MAX_ITERATORS }
     ensures iterators { Reads (λ v. v.items) (iterators_from 1 (array_view items.now)) result }
     ensures few { IfOk result (λ v. length v.items ≤ MAX_ITERATORS) }
-    ensures limits { IfOk result (λ v. All (λ s. IsLimited s.kind) v.items) }
+    ensures limits { IfOk result (λ v. All AreFields v.items) }
 {
     let mut iterators = Vec::new(alloc);
     for i in 0..items.len() {

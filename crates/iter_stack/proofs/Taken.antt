@@ -27,7 +27,7 @@ use Rattle.iter_config.specs.declared.iter_spec.Deletes.{Deletes}
 use Rattle.combiners.specs.Gathers.{AreRead, stands}
 use Rattle.iter_config.specs.Order.{IsConfig}
 use Rattle.iter_config.specs.Predicates.{is_of_column, keeps, filter_stage}
-use Rattle.iter_config.specs.Limits.{IsLimited}
+use Rattle.iter_config.specs.Limits.{AreFields, IsLimited}
 use Rattle.iter_config.specs.Rules.{combines_behind, is_combiner, is_full_combiner, is_of_deletes, is_scan_only, leaves_scans, shares_column}
 use Rattle.iter_config.specs.Settings.{Settings}
 use Rattle.iter_config.specs.Stages.{stage_list, stage_of, stages_of}
@@ -37,6 +37,7 @@ use Rattle.iter_config.specs.declared.iter_spec.Kind.TheVariants.{Filter, Versio
 use Rattle.iter_config.specs.declared.predicate.Predicate.{Predicate}
 use Rattle.iter_config.proofs.Following.{AreApart, stages_all}
 use Rattle.iter_config.proofs.Meeting.{apart_columns}
+use Rattle.iter_config.proofs.Prefixes.{map_all}
 use Rattle.iter_stack.specs.Places.{bottom_cells, made_by, KindTakes}
 use Rattle.iter_stack.proofs.Steps.{AllTake}
 use Rattle.iter_stack.specs.Usages.{runs_in}
@@ -220,4 +221,4 @@ pub all_taken : (usage : Usage) (c : Settings) → IsConfig c → (list : List C
 all_taken usage c config list read =
     let specs = c.iterators in
     let rules = config.iterators in
-    takes_all usage specs (recursion_from_All (λ s. IsLimited s.kind) specs rules.limits) (recursion_from_All (λ s. leaves_scans s ≡ false) specs rules.in_scans) rules.uncombined rules.apart (bottom_cells usage list) (λ scan. bottom_plain usage list scan) (bottom_read usage (stages_of c) list read) (λ columns. bottom_front usage list (column_listed columns))
+    takes_all usage specs (map_all AreFields (λ s. IsLimited s.kind) (λ s k. k.kind) specs (recursion_from_All AreFields specs rules.limits)) (recursion_from_All (λ s. leaves_scans s ≡ false) specs rules.in_scans) rules.uncombined rules.apart (bottom_cells usage list) (λ scan. bottom_plain usage list scan) (bottom_read usage (stages_of c) list read) (λ columns. bottom_front usage list (column_listed columns))

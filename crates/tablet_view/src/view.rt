@@ -13,7 +13,7 @@ ghost use Rattle.iter_config.specs.RulesOf.{rules_of};
 ghost use Rattle.iter_config.specs.Stages.{stages_of};
 ghost use Rattle.iter_contract.specs.Copies.{IsCopy};
 ghost use Rattle.compactor.specs.Compacted.{entries_made};
-ghost use Rattle.compactor.specs.PartCells.{part_cells, union_of};
+ghost use Rattle.compactor.specs.PartCells.{part_cells, part_rest, union_of};
 ghost use Rattle.iter_stack.specs.Usages.{usage_cells};
 ghost use Rattle.iter_stack.specs.declared.usage.Usage.TheVariants.{Scan};
 ghost use Rattle.tablet_view.specs.Extending.{BeginsWith};
@@ -290,10 +290,11 @@ impl View {
         &self.config
     }
 
-    /// A source of the entries of the frozen part. It takes memory.
+    /// A source of the entries of the frozen part, which was not sought yet. It takes memory.
     pub fn frozen_cursor(&self, alloc: Global) -> Result<PartCursor, NoMemory>
         requires { IsSome self.now.frozen }
-        ensures { IfOk result (λ cursor. Some (part_cells cursor) ≡ self.now.frozen) }
+        ensures cells { IfOk result (λ cursor. Some (part_cells cursor) ≡ self.now.frozen) }
+        ensures unsought { IfOk result (λ cursor. part_rest cursor ≡ []) }
     {
         let Some(frozen) = &self.frozen else {
             unreachable!()
@@ -301,10 +302,11 @@ impl View {
         Ok(PartCursor::Memory(frozen.cursor(alloc)?))
     }
 
-    /// A source of the entries of the file at place `i`. It takes memory.
+    /// A source of the entries of the file at place `i`, which was not sought yet. It takes memory.
     pub fn file_cursor(&self, alloc: Global, i: usize) -> Result<PartCursor, NoMemory>
         requires { i < length self.now.files }
-        ensures { IfOk result (λ cursor. Some (part_cells cursor) ≡ option_map (λ file. file.cells) (slice_get self.now.files i)) }
+        ensures cells { IfOk result (λ cursor. Some (part_cells cursor) ≡ option_map (λ file. file.cells) (slice_get self.now.files i)) }
+        ensures unsought { IfOk result (λ cursor. part_rest cursor ≡ []) }
     {
         let stored = self.files.get(i);
         let cursor = SortedFile::cursor(alloc, &stored.file)?;

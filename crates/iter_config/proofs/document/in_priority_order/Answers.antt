@@ -3,7 +3,7 @@ use Rattle.std.proofs.lemmas.Bool.Decides.{nat_tests}
 use Rattle.std.proofs.lemmas.Cmp.{nat_list_eq_equiv}
 use Rattle.std.proofs.lemmas.List.Sorted.{All-permutation, IsNonDecreasingBy-from_sort_by_key, answers_always}
 use Rattle.std.proofs.lemmas.Map.Keys.{IsDistinct-IsPermutation}
-use Rattle.iter_config.specs.Limits.{IsLimited}
+use Rattle.iter_config.specs.Limits.{AreFields}
 use Rattle.iter_config.specs.Rules.{same_name, same_priority}
 use Rattle.iter_config.proofs.Ordering.{sorted-sort_by_key}
 use Rattle.iter_config.proofs.document.in_priority_order.Goals as goal
@@ -15,7 +15,7 @@ returns-clause-sorted c =
     (c.sort_by_key.ensures.stable (λ s. s.priority) (answers_always _ _ _ (λ f a r g h. search rules)))
 
 pub returns-clause-limits : goal.returns-clause-limits
-returns-clause-limits c = All-permutation (λ s. IsLimited s.kind) _ _ c.sort_by_key.ensures.permutation c.requires.limits
+returns-clause-limits c = All-permutation AreFields _ _ c.sort_by_key.ensures.permutation c.requires.limits
 
 pub returns-clause-names : goal.returns-clause-names
 returns-clause-names c = IsDistinct-IsPermutation same_name (λ s t. nat_list_eq_equiv.symm s.name t.name) _ _ c.sort_by_key.ensures.permutation c.requires.names

@@ -10,7 +10,7 @@ new-requires-clause-storable c =
     let v : c.deref-3.result.now ≡ c.args.self.now.view = c.deref-3.ensures ∙ ap (λ k. k.view) c.self.view_is in
     flush_storable c.args.self.now.view (arc_value c.in_ok-config.config) (part_cells c.in_ok-frozen_cursor.field-0) (union_of c.push.new.self.items)
     (subst IsStanding v c.config.ensures.stands)
-    (c.in_ok-frozen_cursor.ensures ∙ ap (λ w. w.frozen) (c.deref-2.ensures ∙ ap (λ k. k.view) c.self.view_is))
+    (c.in_ok-frozen_cursor.ensures.cells ∙ ap (λ w. w.frozen) (c.deref-2.ensures ∙ ap (λ k. k.view) c.self.view_is))
     (c.in_ok-config.ensures ∙ c.config.ensures.config ∙ ap (λ w. w.config) v)
     (ap (λ l. union_of l) (c.in_ok-push.ensures.items ∙ ap (λ l. l ++ c.in_ok-frozen_cursor.field-0 ∷ []) c.new-parts.ensures.items))
 
@@ -19,7 +19,7 @@ returns-clause-job c =
     let v : c.deref-3.result.now ≡ c.args.self.now.view = c.deref-3.ensures ∙ ap (λ k. k.view) c.self.view_is in
     flush_is c.args.self.now.view (arc_value c.in_ok-config.config) (part_cells c.in_ok-frozen_cursor.field-0) (union_of c.push.new.self.items) c.in_ok-new.field-0
     (subst IsStanding v c.config.ensures.stands)
-    (c.in_ok-frozen_cursor.ensures ∙ ap (λ w. w.frozen) (c.deref-2.ensures ∙ ap (λ k. k.view) c.self.view_is))
+    (c.in_ok-frozen_cursor.ensures.cells ∙ ap (λ w. w.frozen) (c.deref-2.ensures ∙ ap (λ k. k.view) c.self.view_is))
     (c.in_ok-config.ensures ∙ c.config.ensures.config ∙ ap (λ w. w.config) v)
     (ap (λ l. union_of l) (c.in_ok-push.ensures.items ∙ ap (λ l. l ++ c.in_ok-frozen_cursor.field-0 ∷ []) c.new-parts.ensures.items))
     c.in_ok-new.ensures

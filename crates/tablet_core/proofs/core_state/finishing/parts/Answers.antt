@@ -17,7 +17,7 @@ loop-i-preserved c =
     let here : FileAt c.args.view.now.files c.loop-i.i c.file_at.result.0 = file_at c.args.view.now.files c.loop-i.i c.file_at.result.0 (omega arith) c.file_at.ensures.id in
     elim c.if-has.branch [
       | then-has+in_ok-file_cursor+in_ok-push w ↦
-          (let cursor : Some (part_cells w.in_ok-file_cursor.field-0) ≡ Some here.file.cells = w.in_ok-file_cursor.ensures ∙ ap (option_map (λ f. f.cells)) here.is_at in
+          (let cursor : Some (part_cells w.in_ok-file_cursor.field-0) ≡ Some here.file.cells = w.in_ok-file_cursor.ensures.cells ∙ ap (option_map (λ f. f.cells)) here.is_at in
           let cells : part_cells w.in_ok-file_cursor.field-0 ≡ here.file.cells = cc in
           ap (λ p. map part_cells p.items) w.parts-is
           ∙ ap (λ l. map part_cells l) w.in_ok-push.ensures.items
