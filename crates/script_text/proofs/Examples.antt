@@ -4,9 +4,10 @@ use Rattle.std.specs.Fmt.{digits}
 use Rattle.tablet_model.specs.Cell.{Cell}
 use Rattle.cell_key.specs.declared.mutation.Update.{Update}
 use Rattle.script_text.specs.Answers.{entry_line, scan_text, found_text}
-use Rattle.script_text.specs.Grammar.{compact_of, delete_of, fetch_of, line_of, mutation_of, open_of, put_of, line_by_word, reading_of, scan_of, update_of}
+use Rattle.script_text.specs.Grammar.{compact_of, delete_of, fetch_of, line_of, mutation_of, open_of, put_of, timed_put_of, line_by_word, reading_of, scan_of, update_of}
 use Rattle.script_text.specs.Numbers.{number_of}
 use Rattle.script_text.specs.Scans.{all_keys, range_in_brackets, families_of, optional_row, range_of, rows_between, short_text}
+use Rattle.script_text.specs.Times.{time_of}
 use Rattle.tablet_model.specs.Cuts.{Everything, BeforeRow, BehindRow}
 use Rattle.cell_key.specs.FileNumbers.{with_number}
 use Rattle.script_text.specs.Lines.{config_bytes, lines_of, script_lines}
@@ -19,7 +20,11 @@ use Rattle.tablet_steps.specs.declared.event.Event.TheVariants.{Apply, Freeze, F
 
 -- a change of this column
 change : List ℕ → List ℕ → List ℕ → Option (List ℕ) → Update
-change family qualifier visibility value = record { family = family; qualifier = qualifier; visibility = visibility; value = value }
+change family qualifier visibility value = record { family = family; qualifier = qualifier; visibility = visibility; time = None; value = value }
+
+-- a put of 1 in a:x: at a time of its own
+put_at : ℤ → Update
+put_at time = record (change (codes "a") (codes "x") [] (Some (codes "1"))) { time = Some time }
 
 -- changes of this row
 mutation : List ℕ → List Update → Option Line
@@ -46,6 +51,21 @@ put_with_colons = refl
 put_with_equals : line_of (codes "m r +a=:x=:=1") ≡ mutation (codes "r") (change (codes "a=") (codes "x=") [] (Some (codes "1")) ∷ [])
 unfolding reading_of line_by_word mutation_of update_of put_of change mutation
 put_with_equals = refl
+
+-- a put at a time of its own; the time may begin with zeros
+put_with_time : line_of (codes "m r ^007+a:x:=1 ^-12+a:x:=1 ^-0+a:x:=1") ≡ mutation (codes "r") (put_at (pos 7) ∷ put_at (negsuc 11) ∷ put_at (pos 0) ∷ [])
+unfolding reading_of line_by_word mutation_of update_of put_of timed_put_of time_of change put_at mutation
+put_with_time = refl
+
+-- the greatest time and the least
+put_with_last_time : line_of (codes "m r ^9223372036854775807+a:x:=1 ^-9223372036854775808+a:x:=1") ≡ mutation (codes "r") (put_at (pos 9223372036854775807) ∷ put_at (negsuc 9223372036854775807) ∷ [])
+unfolding reading_of line_by_word mutation_of update_of put_of timed_put_of time_of change put_at mutation
+put_with_last_time = refl
+
+-- the time ends with the first plus
+put_with_pluses : line_of (codes "m r ^3++a:x:=1") ≡ mutation (codes "r") (record (put_at (pos 3)) { family = codes "+a" } ∷ [])
+unfolding reading_of line_by_word mutation_of update_of put_of timed_put_of time_of change put_at mutation
+put_with_pluses = refl
 
 no_updates : line_of (codes "m r1") ≡ mutation (codes "r1") []
 unfolding reading_of line_by_word mutation_of mutation
@@ -98,6 +118,11 @@ blank = refl
 no_row : line_of (codes "m") ≡ None
 unfolding reading_of line_by_word mutation_of
 no_row = refl
+
+-- no time of 64 bits, no plus behind it, or a delete
+bad_times : map line_of (codes "m r ^+a:x:=1" ∷ codes "m r ^-+a:x:=1" ∷ codes "m r ^--1+a:x:=1" ∷ codes "m r ^\\x31+a:x:=1" ∷ codes "m r ^00000000000000000001+a:x:=1" ∷ codes "m r ^9223372036854775808+a:x:=1" ∷ codes "m r ^-9223372036854775809+a:x:=1" ∷ codes "m r ^1a:x:=1" ∷ codes "m r ^1-a:x:" ∷ []) ≡ None ∷ None ∷ None ∷ None ∷ None ∷ None ∷ None ∷ None ∷ None ∷ []
+unfolding reading_of line_by_word mutation_of update_of put_of timed_put_of time_of
+bad_times = refl
 
 no_value : line_of (codes "m r1 +a:x") ≡ None
 unfolding reading_of line_by_word mutation_of update_of put_of

@@ -37,6 +37,10 @@ colon = 58
 abbrev pub equals : ℕ
 equals = 61
 
+-- ^
+abbrev pub caret : ℕ
+caret = 94
+
 -- (
 abbrev pub left_parenthesis : ℕ
 left_parenthesis = 40

@@ -1,12 +1,13 @@
 -- The grammar of script lines. All of this is this project's own.
-use Rattle.std.specs.Prelude.{ℕ, Bool, true, false, ◌==◌, if◌then◌else◌, List, [], ◌∷◌, Option, Some, None, option_map, codes}
+use Rattle.std.specs.Prelude.{ℕ, ℤ, Bool, true, false, ◌==◌, if◌then◌else◌, List, [], ◌∷◌, Option, Some, None, option_map, codes}
 use Rattle.std.specs.Str.{bytes_eq}
 use Rattle.cell_key.specs.declared.mutation.Update.{Update}
 use Rattle.cell_key.specs.FileNumbers.{with_number}
-use Rattle.script_text.specs.Code.{colon, equals, hash, minus, plus}
+use Rattle.script_text.specs.Code.{caret, colon, equals, hash, minus, plus}
 use Rattle.script_text.specs.Reading.{◌>>=◌}
 use Rattle.script_text.specs.Numbers.{file_of, job_of, number_to, session_of}
 use Rattle.script_text.specs.Scans.{behind_families, behind_range, families_in, families_text, range_in, range_word}
+use Rattle.script_text.specs.Times.{time_of}
 use Rattle.script_text.specs.Words.{split_once, text_of, words_of}
 use Rattle.script_text.specs.declared.line.Line.{Line}
 use Rattle.script_text.specs.declared.line.Line.TheVariants.{Nothing, Step, Scan, Session, Status}
@@ -14,9 +15,9 @@ use Rattle.script_text.specs.declared.line.SessionStep.{SessionStep}
 use Rattle.script_text.specs.declared.line.SessionStep.TheVariants.{Open, Fetch, Renew, Drop, Close}
 use Rattle.tablet_steps.specs.declared.event.Event.TheVariants.{Apply, Freeze, Flush, Compact, CompactAll, Finish}
 
--- FAMILY:QUALIFIER:VISIBILITY=VALUE, each part up to the first byte that ends it
-unfoldable pub put_of : List ℕ → Option Update
-put_of text = do
+-- FAMILY:QUALIFIER:VISIBILITY=VALUE, each part up to the first byte that ends it: a put at this time of its own, or at none
+unfoldable pub put_of : Option ℤ → List ℕ → Option Update
+put_of time text = do
   family ← split_once colon text
   qualifier ← split_once colon family.1
   visibility ← split_once equals qualifier.1
@@ -24,7 +25,14 @@ put_of text = do
   q ← text_of qualifier.0
   v ← text_of visibility.0
   value ← text_of visibility.1
-  Some (record { family = f; qualifier = q; visibility = v; value = Some value })
+  Some (record { family = f; qualifier = q; visibility = v; time = time; value = Some value })
+
+-- TIME+FAMILY:QUALIFIER:VISIBILITY=VALUE, the time up to the first plus
+unfoldable pub timed_put_of : List ℕ → Option Update
+timed_put_of text = do
+  put ← split_once plus text
+  time ← time_of put.0
+  put_of (Some time) put.1
 
 -- FAMILY:QUALIFIER:VISIBILITY, the visibility up to the end
 unfoldable pub delete_of : List ℕ → Option Update
@@ -34,12 +42,15 @@ delete_of text = do
   f ← text_of family.0
   q ← text_of qualifier.0
   v ← text_of qualifier.1
-  Some (record { family = f; qualifier = q; visibility = v; value = None })
+  Some (record { family = f; qualifier = q; visibility = v; time = None; value = None })
 
--- a put behind a plus, a delete behind a minus
+-- a put behind a plus, a delete behind a minus, a put with a time of its own behind a caret
 unfoldable pub update_of : List ℕ → Option Update
 update_of [] = None
-update_of (b ∷ bs) = if b == plus then put_of bs else if b == minus then delete_of bs else None
+update_of (b ∷ bs) =
+    if b == plus then put_of None bs else
+    if b == minus then delete_of bs else
+    if b == caret then timed_put_of bs else None
 
 -- each word is an update
 abbrev pub updates_of : List (List ℕ) → Option (List Update)

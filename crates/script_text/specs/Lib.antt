@@ -3,6 +3,7 @@ pub mod Lines
 pub mod Reading
 pub mod Words
 pub mod Numbers
+pub mod Times
 pub mod Scans
 pub mod Grammar
 pub mod Answers

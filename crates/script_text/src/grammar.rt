@@ -57,8 +57,9 @@ fn parse_by_word(alloc: Global, word: &[u8], rest: &[u8]) -> Result<Line, LineEr
 /// Reads a script line, without the newline that ends it. Its words stand between runs of spaces and tabs.
 ///
 /// - No words, or a first word that begins with `#`, is [`Line::Nothing`].
-/// - `m ROW UPDATE ..` is a mutation. A put is `+FAMILY:QUALIFIER:VISIBILITY=VALUE`, a delete is
-///   `-FAMILY:QUALIFIER:VISIBILITY`, and a part runs to the first byte that ends it and is then unescaped.
+/// - `m ROW UPDATE ..` is a mutation. A put is `+FAMILY:QUALIFIER:VISIBILITY=VALUE`, or `^TIME+..` with a time of its own in
+///   front, an optional `-` and 1 to 19 digits of a signed 64-bit number; a delete is `-FAMILY:QUALIFIER:VISIBILITY`. A part
+///   runs to the first byte that ends it and is then unescaped.
 /// - `freeze`, `flushed`, `compact jN fN ..`, `compactall jN` and `finish jN` are the other steps of the store, and `status`
 ///   asks what it holds.
 /// - `scan` with an optional RANGE and optional FAMS is [`Line::Scan`]. RANGE is `*`, or an opening `[` or `(`, an

@@ -16,6 +16,7 @@ mod session_answers;
 mod session_lines;
 mod status_answers;
 mod step_lines;
+mod times;
 mod updates;
 mod words;
 

@@ -1,9 +1,9 @@
 //! Numbers, and the names of sessions, jobs and files.
-ghost use Rattle.std.specs.Prelude.{◌≡◌, ◌≤◌, [], Some, IfSome, length, true};
+ghost use Rattle.std.specs.Prelude.{◌≡◌, ◌≤◌, [], Some, IfSome, true};
 ghost use Rattle.std.specs.Char.{is_ascii_digit};
 ghost use Rattle.std.specs.List.{list_all};
 ghost use Rattle.std.specs.Str.Parse.{digits_value};
-ghost use Rattle.script_text.specs.Numbers.{file_of, job_of, number_of, number_to, session_of};
+ghost use Rattle.script_text.specs.Numbers.{are_digits, file_of, job_of, number_of, number_to, session_of};
 ghost use Rattle.script_text.specs.Grammar.{files_onto};
 ghost use Rattle.script_text.specs.Reading.{Gives};
 ghost use Rattle.script_text.specs.Words.{words_of};
@@ -22,17 +22,22 @@ const MAX_JOB: u32 = 999_999;
 
 const MAX_FILE: u64 = 9_999_999_999;
 
-fn are_digits(text: &[u8]) -> bool
+fn are_all_digits(text: &[u8]) -> bool
     ensures { result ≡ list_all is_ascii_digit text.now }
 {
     text.iter().all(|b| b.is_ascii_digit())
 }
 
+/// Whether a text is 1 up to so many decimal digits.
+pub fn are_digits(most: usize, text: &[u8]) -> bool
+    ensures { result ≡ are_digits most text.now }
+{
+    !text.is_empty() && text.len() <= most && are_all_digits(text)
+}
+
 /// The number that some digits spell.
 fn value_of(digits: &[u8]) -> Option<u64>
-    requires some { 1 ≤ length digits.now }
-    requires few { length digits.now ≤ 10 }
-    requires digits { list_all is_ascii_digit digits.now ≡ true }
+    requires { are_digits 10 digits.now ≡ true }
     ensures { result ≡ Some (digits_value 10 digits.now) }
 {
     let Ok(text) = str::from_utf8(digits) else {
@@ -46,7 +51,7 @@ fn value_of(digits: &[u8]) -> Option<u64>
 fn parse_number(text: &[u8]) -> Option<u64>
     ensures number { result ≡ number_of text.now }
 {
-    if text.is_empty() || text.len() > MAX_DIGITS || !are_digits(text) {
+    if !are_digits(MAX_DIGITS, text) {
         return None;
     }
     value_of(text)
