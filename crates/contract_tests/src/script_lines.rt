@@ -43,20 +43,25 @@ fn lines_are_read(rt: HostRuntime) {
         ("fetch s1 1000001", "syntax"),
         ("m r1 +a:x:", "syntax"),
         ("m r1 +a:x:=\\x4", "syntax"),
+        ("m r1 ^9223372036854775808+a:x:=1", "syntax"),
+        ("m r1 ^00000000000000000001+a:x:=1", "syntax"),
+        ("m r1 ^+a:x:=1", "syntax"),
+        ("m r1 ^1-a:x:", "syntax"),
     ];
     for (line, word) in lines {
         assert!(rt; is_read(rt.alloc(), line, word), "at {line:?}");
     }
 }
 
-/// Family, qualifier, visibility, and the value of a put.
-type Change<'a> = (&'a [u8], &'a [u8], &'a [u8], Option<&'a [u8]>);
+/// Family, qualifier, visibility, a time of its own, and the value of a put.
+type Change<'a> = (&'a [u8], &'a [u8], &'a [u8], Option<i64>, Option<&'a [u8]>);
 
 fn is_change(update: &Update, change: &Change<'_>) -> bool {
-    let (family, qualifier, visibility, value) = *change;
+    let (family, qualifier, visibility, time, value) = *change;
     update.family.bytes() == family
         && update.qualifier.bytes() == qualifier
         && update.visibility.bytes() == visibility
+        && update.time == time
         && has_value(update, value)
 }
 
@@ -88,23 +93,38 @@ fn mutates(alloc: Global, line: &[u8], row: &[u8], changes: &[Change<'_>]) -> bo
 
 #[test]
 fn mutations_are_read(rt: HostRuntime) {
-    let lines: [(&[u8], &[u8], &[Change<'_>]); 5] = [
+    let lines: [(&[u8], &[u8], &[Change<'_>]); 6] = [
         (b"m r1", b"r1", &[]),
-        (b"m r1 +a:x:=1", b"r1", &[(b"a", b"x", b"", Some(b"1"))]),
+        (
+            b"m r1 +a:x:=1",
+            b"r1",
+            &[(b"a", b"x", b"", None, Some(b"1"))],
+        ),
         (
             b"m  r1\t+a:x:=1  -b::w ",
             b"r1",
-            &[(b"a", b"x", b"", Some(b"1")), (b"b", b"", b"w", None)],
+            &[
+                (b"a", b"x", b"", None, Some(b"1")),
+                (b"b", b"", b"w", None, None),
+            ],
         ),
         (
             b"m r +a:x:v:w=1=2",
             b"r",
-            &[(b"a", b"x", b"v:w", Some(b"1=2"))],
+            &[(b"a", b"x", b"v:w", None, Some(b"1=2"))],
+        ),
+        (
+            b"m r ^-007+a:x:=1 ^9223372036854775807++::=",
+            b"r",
+            &[
+                (b"a", b"x", b"", Some(-7), Some(b"1")),
+                (b"+", b"", b"", Some(i64::MAX), Some(b"")),
+            ],
         ),
         (
             b"m \\x20\\x3A +\\x3a:\\x0a:\\x5c=\\x00",
             b" :",
-            &[(b":", b"\n", b"\\", Some(b"\0"))],
+            &[(b":", b"\n", b"\\", None, Some(b"\0"))],
         ),
     ];
     for (i, (line, row, changes)) in lines.iter().enumerate() {

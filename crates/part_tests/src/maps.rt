@@ -25,6 +25,7 @@ fn update(alloc: Global, family: &[u8], deletes: bool) -> Result<Update, NoMemor
         family,
         qualifier: ByteText::new(alloc),
         visibility: ByteText::new(alloc),
+        time: None,
         value,
     })
 }
@@ -106,6 +107,37 @@ fn with_put(alloc: Global, map: &MemMap, row: &[u8]) -> Result<MemMap, NoMemory>
     updates.push(update(alloc, b"b", false)?)?;
     let row = ByteText::of(alloc, row)?;
     map.insert(alloc, &Mutation { row, updates }, 1)
+}
+
+/// A map with one update of the row `r` as well.
+#[tactic(auto, unfolding(tablet_model::specs::Ingest::out_of_bounds, tablet_model::specs::Ingest::first_too_long))]
+fn with_update(alloc: Global, map: &MemMap, update: Update, time: i64) -> Result<MemMap, NoMemory>
+    requires { too_long (change_of update) ≡ None }
+{
+    let mut updates = Updates::new(alloc);
+    updates.push(update)?;
+    let row = ByteText::of(alloc, b"r")?;
+    map.insert(alloc, &Mutation { row, updates }, time)
+}
+
+/// Whether a put at the time 9 of its own is newer than a delete at 7, though it comes in at 1.
+#[tactic(auto, unfolding(tablet_model::specs::Ingest::too_long))]
+fn own_time_counts(alloc: Global) -> Result<bool, NoMemory> {
+    let empty = MemMap::empty(alloc)?;
+    let deleted = with_update(alloc, &empty, update(alloc, b"a", true)?, 7)?;
+    let put = update(alloc, b"a", false)?;
+    let put = Update {
+        time: Some(9),
+        ..put
+    };
+    let both = with_update(alloc, &deleted, put, 1)?;
+    holds(alloc, &both, 2, Bound::Open, b"ra=1 ra! ")
+}
+
+#[test]
+fn puts_keep_their_own_times(rt: HostRuntime) -> Result<(), NoMemory> {
+    assert!(rt; own_time_counts(rt.alloc())?);
+    Ok(())
 }
 
 /// Whether maps of no entry, one, two and three have these runs.

@@ -7,6 +7,7 @@ fn update(alloc: Global, qualifier: &[u8], value: Option<ByteText>) -> Result<Up
         family: ByteText::of(alloc, b"f")?,
         qualifier: ByteText::of(alloc, qualifier)?,
         visibility: ByteText::new(alloc),
+        time: None,
         value,
     })
 }
@@ -74,6 +75,35 @@ fn a_delete_is_no_put(rt: HostRuntime) -> Result<(), NoMemory> {
     Ok(())
 }
 
+/// A mutation whose second put has a time of its own.
+fn timed(alloc: Global, time: i64) -> Result<Mutation, NoMemory> {
+    let row = ByteText::of(alloc, b"r")?;
+    let put = put(alloc, b"q", b"2")?;
+    let updates = behind_first(
+        alloc,
+        Update {
+            time: Some(time),
+            ..put
+        },
+    )?;
+    Ok(Mutation { row, updates })
+}
+
+/// Whether mutations whose second puts have the times 7 and `time` are equal, and neither is the one without.
+fn has_time_7(alloc: Global, time: i64) -> Result<bool, NoMemory> {
+    let own = timed(alloc, 7)?;
+    let other = timed(alloc, time)?;
+    let plain = mutation(alloc, b"r", b"q", b"2")?;
+    Ok(own.same(&other) && !own.same(&plain) && !plain.same(&other))
+}
+
+#[test]
+fn times_are_told_apart(rt: HostRuntime) -> Result<(), NoMemory> {
+    assert!(rt; has_time_7(rt.alloc(), 7)?);
+    assert!(rt; !has_time_7(rt.alloc(), -7)?);
+    Ok(())
+}
+
 fn is_copied(alloc: Global, own: &Mutation) -> Result<bool, NoMemory> {
     let copy = own.copy(alloc)?;
     Ok(own.same(&copy))
@@ -81,6 +111,11 @@ fn is_copied(alloc: Global, own: &Mutation) -> Result<bool, NoMemory> {
 
 fn put_is_copied(alloc: Global) -> Result<bool, NoMemory> {
     let own = mutation(alloc, b"r", b"q", b"2")?;
+    is_copied(alloc, &own)
+}
+
+fn timed_put_is_copied(alloc: Global) -> Result<bool, NoMemory> {
+    let own = timed(alloc, i64::MIN)?;
     is_copied(alloc, &own)
 }
 
@@ -92,6 +127,7 @@ fn delete_is_copied(alloc: Global) -> Result<bool, NoMemory> {
 #[test]
 fn mutations_are_copied(rt: HostRuntime) -> Result<(), NoMemory> {
     assert!(rt; put_is_copied(rt.alloc())?);
+    assert!(rt; timed_put_is_copied(rt.alloc())?);
     assert!(rt; delete_is_copied(rt.alloc())?);
     Ok(())
 }
