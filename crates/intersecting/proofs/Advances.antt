@@ -12,7 +12,8 @@ use Rattle.intersecting.specs.Searches.{document_cmp, index_cmp, document_start,
 use Rattle.intersecting.specs.declared.asking.Step.{Step}
 use Rattle.intersecting.specs.declared.asking.Step.TheVariants.{Here, Ahead, Nowhere}
 use Rattle.tablet_model.proofs.CutLemmas.{ge_back}
-use Rattle.intersecting.proofs.Orders.{document_total, itself, equal_texts}
+use Rattle.tablet_model.proofs.Texts.{equal_texts, text_itself}
+use Rattle.intersecting.proofs.Orders.{document_total}
 use Rattle.intersecting.proofs.Firsts.{no, nowhere_left, elsewhere, of_row, has_first, first_reached, from_first_on}
 
 -- ---- a document is told by its row and its qualifier
@@ -79,7 +80,7 @@ strictly false r q h k l = grind (arith, h, k, l)
 -- another document of the row that is reached lies behind the place
 behind_place : (behind : Bool) (p e : Cell) → lies_from behind p e ≡ true → e.key.row ≡ p.key.row → same_bytes e.key.qualifier p.key.qualifier ≡ false → lies_from true p e ≡ true
 unfolding lies_from document_cmp same_bytes
-behind_place behind p e h r q = strictly behind (bytes_cmp e.key.row p.key.row) (bytes_cmp e.key.qualifier p.key.qualifier) h (ap (bytes_cmp e.key.row) (sym r) ∙ itself e.key.row) q
+behind_place behind p e h r q = strictly behind (bytes_cmp e.key.row p.key.row) (bytes_cmp e.key.qualifier p.key.qualifier) h (ap (bytes_cmp e.key.row) (sym r) ∙ text_itself e.key.row) q
 
 -- where it is moved on
 pub moved_is : (behind : Bool) (p n : Cell) (term : List ℕ) (list : List Cell) → Ascends above list → (e : Cell) → first (under behind p term list) ≡ Some e → step_to p term (Some e) ≡ Ahead
@@ -139,11 +140,11 @@ not_here Nowhere h = refl
 
 pub from_itself : (p : Cell) → lies_from false p p ≡ true
 unfolding lies_from document_cmp
-from_itself p = ap (λ o. is_ge (ordering_then o (bytes_cmp p.key.qualifier p.key.qualifier))) (itself p.key.row) ∙ ap is_ge (itself p.key.qualifier)
+from_itself p = ap (λ o. is_ge (ordering_then o (bytes_cmp p.key.qualifier p.key.qualifier))) (text_itself p.key.row) ∙ ap is_ge (text_itself p.key.qualifier)
 
 pub own_row : (p : Cell) → in_later_row p p ≡ false
 unfolding in_later_row
-own_row p = ap is_gt (itself p.key.row)
+own_row p = ap is_gt (text_itself p.key.row)
 
 -- a document lies before one that is behind it
 pub not_back : (p e : Cell) → lies_from true p e ≡ true → lies_from false e p ≡ false

@@ -4,6 +4,7 @@ use Rattle.std.specs.List.{list_all, list_any}
 use Rattle.std.specs.Ordering.{is_gt, is_ge}
 use Rattle.tablet_model.specs.Cell.{Cell}
 use Rattle.tablet_model.specs.Rows.{has_term}
+use Rattle.tablet_model.proofs.Bools.{both-of-and}
 use Rattle.tablet_model.proofs.CutLemmas.{ge_back, ge_up, gt_up}
 use Rattle.intersecting.specs.Searches.{document_cmp, reaches, lies_from, shows, left_by, IsAdvance, IsAgreement}
 use Rattle.intersecting.specs.declared.asking.Step.{Step}
@@ -23,14 +24,11 @@ any_step p [] i d l = absurd (omega arith)
 any_step p (n ∷ ns) zero d l = refl
 any_step p (n ∷ ns) (suc i) d l = let k : suc i + 1 ≡ suc (i + 1) = omega arith in rw k (any_step p ns i d (omega arith))
 
-pub both : (a b : Bool) → (a && b) ≡ true → (a ≡ true) × (b ≡ true)
-both a b h = grind arith
-
 -- each of them passes where all do
 pub all_at : (p : List ℕ → Bool) (names : List (List ℕ)) (i : ℕ) (d : List ℕ) → i < length names → list_all p names ≡ true → p (get_or names i d) ≡ true
 all_at p [] i d l h = absurd (omega arith)
-all_at p (n ∷ ns) zero d l h = (both (p n) (list_all p ns) h).0
-all_at p (n ∷ ns) (suc i) d l h = all_at p ns i d (omega arith) (both (p n) (list_all p ns) h).1
+all_at p (n ∷ ns) zero d l h = (both-of-and (p n) (list_all p ns) h).0
+all_at p (n ∷ ns) (suc i) d l h = all_at p ns i d (omega arith) (both-of-and (p n) (list_all p ns) h).1
 
 -- ---- moves, one after the other
 

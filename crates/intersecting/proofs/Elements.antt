@@ -1,25 +1,8 @@
 -- One of several sources is sought, and all else stays.
-use Rattle.std.proofs.Common.{◌≡◌, ℕ, zero, suc, ◌<◌, List, [], ◌∷◌, length, map, take, ◌++◌, get_or, refl, sym, ◌∙◌, ap, subst, arith}
-use Rattle.std.specs.Prelude.{slice_set}
-use Rattle.std.specs.List.{AllByRecursion}
+use Rattle.std.proofs.Common.{◌≡◌, ℕ, zero, suc, ◌<◌, ◌&&◌, Bool, true, false, List, [], ◌∷◌, length, map, get_or, refl, sym, ◌∙◌, ap, subst, arith}
+use Rattle.std.specs.List.{AllByRecursion, list_all}
+use Rattle.iter_contract.specs.Several.{all_steady}
 use Rattle.intersecting.specs.Firsts.{at_first}
-
-pub map_set : {S X : Type 0} (f : S → X) (xs : List S) (k : ℕ) (x d : S) → f x ≡ f (get_or xs k d) → map f (slice_set xs k x) ≡ map f xs
-map_set f [] k x d e = refl
-map_set f (z ∷ zs) zero x d e = ap (λ v. v ∷ map f zs) e
-map_set f (z ∷ zs) (suc k) x d e = ap (λ l. f z ∷ l) (map_set f zs k x d e)
-
-pub all_set : {S : Type 0} (P : S → Type 0) (xs : List S) (k : ℕ) (x : S) → AllByRecursion P xs → P x → AllByRecursion P (slice_set xs k x)
-all_set P [] k x h p = tt
-all_set P (z ∷ zs) zero x h p = (p, h.1)
-all_set P (z ∷ zs) (suc k) x h p = (h.0, all_set P zs k x h.1 p)
-
-pub same_length : {S X : Type 0} (f : S → X) (xs ys : List S) → map f xs ≡ map f ys → length xs ≡ length ys
-same_length f xs ys h = sym (mapped f xs) ∙ ap length h ∙ mapped f ys
-  where
-    mapped : {S X : Type 0} (f : S → X) (xs : List S) → length (map f xs) ≡ length xs
-    mapped f [] = refl
-    mapped f (x ∷ xs) = ap suc (mapped f xs)
 
 same_here : {S X : Type 0} (f : S → X) (C : X) (xs : List S) (k : ℕ) (d : S) → AllByRecursion (λ c. c ≡ C) (map f xs) → k < length xs → f (get_or xs k d) ≡ C
 same_here f C [] k d h l = absurd (omega arith)
@@ -41,8 +24,10 @@ first_same f d (x ∷ xs) (y ∷ ys) h = heads (f x) (f y) (map f xs) (map f ys)
 pub same_first : {S X : Type 0} (f : S → X) (d : X) (xs ys : List S) → map f xs ≡ map f ys → AllByRecursion (λ c. c ≡ at_first f d ys) (map f ys) → AllByRecursion (λ c. c ≡ at_first f d xs) (map f xs)
 same_first f d xs ys h a = subst (λ e. AllByRecursion (λ c. c ≡ e) (map f xs)) (sym (first_same f d xs ys h)) (subst (AllByRecursion (λ c. c ≡ at_first f d ys)) (sym h) a)
 
--- a list in front of another
-pub front : {S : Type 0} (new rest : List S) (n : ℕ) → length new ≡ n → take n (new ++ rest) ≡ new
-front [] rest n h = rw (sym h) refl
-front (x ∷ xs) rest zero h = absurd (omega arith)
-front (x ∷ xs) rest (suc n) h = ap (λ l. x ∷ l) (front xs rest n (omega arith))
+-- sources that are as steady as the first are all steady, where it is
+pub all_as_first : {S : Type 0} (steady : S → Bool) (xs : List S) → AllByRecursion (λ b. b ≡ at_first steady false xs) (map steady xs) → at_first steady false xs ≡ true → all_steady steady xs ≡ true
+all_as_first steady xs alike first = all_hold (map steady xs) (subst (λ a. AllByRecursion (λ b. b ≡ a) (map steady xs)) first alike)
+  where
+    all_hold : (bs : List Bool) → AllByRecursion (λ b. b ≡ true) bs → list_all (λ b. b) bs ≡ true
+    all_hold [] h = refl
+    all_hold (b ∷ bs) h = ap (λ b. b && list_all (λ b. b) bs) h.0 ∙ all_hold bs h.1

@@ -9,8 +9,10 @@ use Rattle.tablet_model.specs.Order.{above, bytes_cmp}
 use Rattle.tablet_model.specs.Sorted.{Ascends}
 use Rattle.tablet_model.specs.Rows.{same_bytes, same_row, has_term}
 use Rattle.tablet_model.proofs.CutLemmas.{ge_back, gt_up, ge_up}
+use Rattle.tablet_model.proofs.Bools.{both-of-and, false-of-not}
+use Rattle.tablet_model.proofs.Texts.{equal_texts, same_texts, text_itself}
 use Rattle.intersecting.specs.Searches.{document_cmp, index_cmp, document_start, is_under, reaches, lies_from, in_later_row}
-use Rattle.intersecting.proofs.Orders.{document_total, index_total, itself, equal_texts, same_texts_itself, above_le}
+use Rattle.intersecting.proofs.Orders.{document_total, index_total, above_le}
 
 -- ---- what lists have
 
@@ -79,7 +81,7 @@ beside_cmp p d y term h =
     let parts = and_parts (same_bytes d.key.row y.key.row) (same_bytes term y.key.family) (same_bytes d.key.qualifier y.key.qualifier) h in
     ap (λ r. ordering_then (ordering_then (bytes_cmp r p.key.row) (bytes_cmp y.key.family term)) (bytes_cmp y.key.qualifier p.key.qualifier)) (sym (equal_texts d.key.row y.key.row parts.0))
     ∙ ap (λ (f : List ℕ). ordering_then (ordering_then (bytes_cmp d.key.row p.key.row) (bytes_cmp f term)) (bytes_cmp y.key.qualifier p.key.qualifier)) (sym (equal_texts term y.key.family parts.1))
-    ∙ ap (λ f. ordering_then (ordering_then (bytes_cmp d.key.row p.key.row) f) (bytes_cmp y.key.qualifier p.key.qualifier)) (itself term)
+    ∙ ap (λ f. ordering_then (ordering_then (bytes_cmp d.key.row p.key.row) f) (bytes_cmp y.key.qualifier p.key.qualifier)) (text_itself term)
     ∙ ap (λ o. ordering_then o (bytes_cmp y.key.qualifier p.key.qualifier)) (then_tie (bytes_cmp d.key.row p.key.row))
     ∙ ap (λ q. ordering_then (bytes_cmp d.key.row p.key.row) (bytes_cmp q p.key.qualifier)) (sym (equal_texts d.key.qualifier y.key.qualifier parts.2))
   where
@@ -95,7 +97,7 @@ beside_turned p d y term h f =
     let parts = and_parts (same_bytes d.key.row y.key.row) (same_bytes term y.key.family) (same_bytes d.key.qualifier y.key.qualifier) h in
     ap (λ r. ordering_then (ordering_then (bytes_cmp p.key.row r) (bytes_cmp p.key.family y.key.family)) (bytes_cmp p.key.qualifier y.key.qualifier)) (sym (equal_texts d.key.row y.key.row parts.0))
     ∙ ap (λ (g : List ℕ). ordering_then (ordering_then (bytes_cmp p.key.row d.key.row) (bytes_cmp g y.key.family)) (bytes_cmp p.key.qualifier y.key.qualifier)) (f ∙ equal_texts term y.key.family parts.1)
-    ∙ ap (λ g. ordering_then (ordering_then (bytes_cmp p.key.row d.key.row) g) (bytes_cmp p.key.qualifier y.key.qualifier)) (itself y.key.family)
+    ∙ ap (λ g. ordering_then (ordering_then (bytes_cmp p.key.row d.key.row) g) (bytes_cmp p.key.qualifier y.key.qualifier)) (text_itself y.key.family)
     ∙ ap (λ o. ordering_then o (bytes_cmp p.key.qualifier y.key.qualifier)) (then_tie (bytes_cmp p.key.row d.key.row))
     ∙ ap (λ q. ordering_then (bytes_cmp p.key.row d.key.row) (bytes_cmp p.key.qualifier q)) (sym (equal_texts d.key.qualifier y.key.qualifier parts.2))
   where
@@ -204,17 +206,14 @@ module _ (behind : Bool) (p : Cell) (term : List ℕ) (list : List Cell) (rising
     -- ---- the first entry is of the row and the term
 
     module _ (here : (same_bytes e.key.row p.key.row && same_bytes e.key.family term) ≡ true) where
-      both : (a b : Bool) → (a && b) ≡ true → (a ≡ true) × (b ≡ true)
-      both a b h = grind arith
-
       pub of_row : e.key.row ≡ p.key.row
-      of_row = equal_texts e.key.row p.key.row (both (same_bytes e.key.row p.key.row) (same_bytes e.key.family term) here).0
+      of_row = equal_texts e.key.row p.key.row (both-of-and (same_bytes e.key.row p.key.row) (same_bytes e.key.family term) here).0
 
       pub of_term : e.key.family ≡ term
-      of_term = equal_texts e.key.family term (both (same_bytes e.key.row p.key.row) (same_bytes e.key.family term) here).1
+      of_term = equal_texts e.key.family term (both-of-and (same_bytes e.key.row p.key.row) (same_bytes e.key.family term) here).1
 
       itself_under : is_under e term e ≡ true
-      itself_under = three (same_texts_itself e.key.row e.key.row refl) (same_texts_itself term e.key.family (sym of_term)) (same_texts_itself e.key.qualifier e.key.qualifier refl)
+      itself_under = three (same_texts e.key.row e.key.row refl) (same_texts term e.key.family (sym of_term)) (same_texts e.key.qualifier e.key.qualifier refl)
         where
           three : {a b c : Bool} → a ≡ true → b ≡ true → c ≡ true → (a && (b && c)) ≡ true
           three h k l = grind arith
@@ -237,13 +236,10 @@ module _ (behind : Bool) (p : Cell) (term : List ℕ) (list : List Cell) (rising
           up true h g = gt_up document_total p.key e.key d.key h g
           up false h g = ge_up document_total p.key e.key d.key h g
 
-          flip : (a : Bool) → not a ≡ true → a ≡ false
-          flip a k = grind arith
-
           equal : (y : Cell) → (passes y ≡ true → is_gt (index_cmp e.key y.key) ≡ false) → is_under d term y ≡ true → (a b : Bool) → reaches behind (document_cmp d.key p.key) ≡ a → is_ge (document_cmp d.key e.key) ≡ b → a ≡ b
           equal y low u true b k m =
               sym (ge_back document_total d.key e.key ∙ ap not (ap is_gt (sym (beside_turned e d y term u of_term)) ∙ low (ap (reaches behind) (beside_cmp p d y term u) ∙ k))) ∙ m
-          equal y low u false true k m = sym k ∙ up behind first_reached (flip (is_gt (document_cmp e.key d.key)) (sym (ge_back document_total d.key e.key) ∙ m))
+          equal y low u false true k m = sym k ∙ up behind first_reached (false-of-not (is_gt (document_cmp e.key d.key)) (sym (ge_back document_total d.key e.key) ∙ m))
           equal y low u false false k m = refl
 
           each : (ys : List Cell) → AllByRecursion (λ y. passes y ≡ true → is_gt (index_cmp e.key y.key) ≡ false) ys → AllByRecursion (λ y. is_under d term y ≡ true → reaches behind (document_cmp d.key p.key) ≡ is_ge (document_cmp d.key e.key)) ys

@@ -11,10 +11,11 @@ use Rattle.tablet_model.specs.Rows.{same_bytes, same_row, has_term, is_hit, lead
 use Rattle.tablet_model.proofs.Sums.{all_weaker}
 use Rattle.tablet_model.proofs.CutLemmas.{ge_back}
 use Rattle.tablet_model.proofs.Maps.{all_map}
+use Rattle.tablet_model.proofs.Texts.{equal_texts, same_texts, text_itself}
 use Rattle.intersecting.specs.Documents.{document_entry, matches}
 use Rattle.intersecting.specs.Searches.{document_cmp, lies_from, is_under}
 use Rattle.intersecting.specs.IntersectLaws.{Rises, kept_rises, leads_hits}
-use Rattle.intersecting.proofs.Orders.{document_total, equal_texts, same_texts_itself, itself}
+use Rattle.intersecting.proofs.Orders.{document_total}
 use Rattle.intersecting.proofs.Firsts.{no}
 use Rattle.intersecting.proofs.Agreements.{all_at}
 use Rattle.intersecting.proofs.Rounds.{matches_all, same_matches, tied_parts}
@@ -48,7 +49,7 @@ module _ (first : List ℕ) (others without : List (List ℕ)) (list : List Cell
       join (has_term list e first) (list_all (has_term list e) others) (not (list_any (has_term list e) without)) (met (is_under e first) (both parts.0)) parts.1 parts.2
     where
       both : same_bytes first e.key.family ≡ true → is_under e first e ≡ true
-      both f = rw (same_texts_itself e.key.row e.key.row refl, f, same_texts_itself e.key.qualifier e.key.qualifier refl) refl
+      both f = rw (same_texts e.key.row e.key.row refl, f, same_texts e.key.qualifier e.key.qualifier refl) refl
 
   all_hits : (before part : List Cell) → AllByRecursion (Met list) part → AllByRecursion (IsHit (first ∷ others) without list) (map document_entry (filter_beside leads before part))
   unfolding filter_beside
@@ -91,8 +92,8 @@ module _ (first : List ℕ) (others without : List (List ℕ)) (list : List Cell
   unfolding document_cmp
   tied k y r q =
       ap (λ row. is_eq (ordering_then (bytes_cmp row k.key.row) (bytes_cmp y.key.qualifier k.key.qualifier))) (sym r)
-      ∙ ap (λ o. is_eq (ordering_then o (bytes_cmp y.key.qualifier k.key.qualifier))) (itself k.key.row)
-      ∙ ap (λ document. is_eq (bytes_cmp document k.key.qualifier)) (sym q) ∙ ap is_eq (itself k.key.qualifier)
+      ∙ ap (λ o. is_eq (ordering_then o (bytes_cmp y.key.qualifier k.key.qualifier))) (text_itself k.key.row)
+      ∙ ap (λ document. is_eq (bytes_cmp document k.key.qualifier)) (sym q) ∙ ap is_eq (text_itself k.key.qualifier)
 
   has_hit : (k : Cell) (before part : List Cell) → matches (first ∷ others) without list k ≡ true → list_any (is_under k first) part ≡ true → list_any (is_under k first) before ≡ false → list_any (is_of k) (map document_entry (filter_beside leads before part)) ≡ true
   unfolding filter_beside
@@ -173,9 +174,6 @@ module _ (k : Cell) where
 
       up : (o r : Ordering) → is_ge r ≡ not (is_gt o) → o ≡ Less → is_ge r ≡ true
       up o r e h = grind (arith, e, h)
-
-      flip : (a : Bool) → not a ≡ true → a ≡ false
-      flip a h = grind arith
 
       farther : (y : Cell) → document_cmp x.key y.key ≡ Less → document_cmp y.key k.key ≡ Greater
       farther y l = greater (document_cmp y.key k.key) (go (is_gt (document_cmp y.key k.key)) refl)

@@ -1,5 +1,6 @@
 -- What seeks and steps leave.
 use Rattle.std.proofs.Common.{◌≡◌, ◌&&◌, ◌≤◌, ◌<◌, ℕ, Bool, true, false, cond, List, [], ◌∷◌, length, map, take, ◌++◌, pos, Option, Some, None, refl, sym, ap, ◌∙◌, subst, arith}
+use Rattle.std.proofs.lemmas.List.{take_at}
 use Rattle.std.specs.List.{AllByRecursion, filter}
 use Rattle.tablet_model.specs.Cell.{Cell, CellKey, Column}
 use Rattle.tablet_model.specs.Columns.{key_at, with_time}
@@ -17,7 +18,8 @@ use Rattle.intersecting.specs.Searches.{lies_from, place, IsSearch}
 use Rattle.intersecting.specs.Firsts.{at_first}
 use Rattle.intersecting.specs.IntersectStages.{IntersectFits}
 use Rattle.intersecting.specs.declared.stage.IntersectStage.{IntersectStage}
-use Rattle.intersecting.proofs.Elements.{first_same, front, same_first, same_length}
+use Rattle.iter_contract.proofs.Elements.{same_length}
+use Rattle.intersecting.proofs.Elements.{first_same, same_first}
 use Rattle.intersecting.proofs.Hits.{IsHit, hits_match, from_hit, matches_first}
 
 module _ (terms without : List (List ℕ)) (list : List Cell) where
@@ -114,9 +116,17 @@ same_entry k j h = ap (λ k. Some (entry_at k)) h
 
 -- ---- an iterator's sources after a call
 
-pub still_valid : {S : Type 0} (cells : S → List Cell) (valid : S → Type 0) (stage : IntersectStage) (new old rest : List S) (n : ℕ) → map cells new ≡ map cells old → length old ≡ n → AllByRecursion valid new → AllByRecursion (λ c. c ≡ at_first cells [] old) (map cells old) → IntersectFits stage (length old) (at_first cells [] old)
-    → AllByRecursion valid (take n (new ++ rest)) × AllByRecursion (λ c. c ≡ at_first cells [] (take n (new ++ rest))) (map cells (take n (new ++ rest))) × IntersectFits stage (length (take n (new ++ rest))) (at_first cells [] (take n (new ++ rest)))
-still_valid cells valid stage new old rest n h l v s f =
-    subst (λ xs. AllByRecursion valid xs × AllByRecursion (λ c. c ≡ at_first cells [] xs) (map cells xs) × IntersectFits stage (length xs) (at_first cells [] xs))
-    (sym (front new rest n (same_length cells new old h ∙ l)))
-    (v, same_first cells [] new old h s, subst (λ count. IntersectFits stage count (at_first cells [] new)) (sym (same_length cells new old h)) (subst (IntersectFits stage (length old)) (sym (first_same cells [] new old h)) f))
+-- the sources' parts fit together, they have the same entries and are as steady as one another, and the stage fits to them
+abbrev pub Fitting : {S : Type 0} (cells : S → List Cell) (steady : S → Bool) (valid : S → Type 0) (stage : IntersectStage) (xs : List S) → Type 0
+Fitting cells steady valid stage xs =
+    AllByRecursion valid xs
+    × AllByRecursion (λ c. c ≡ at_first cells [] xs) (map cells xs)
+    × AllByRecursion (λ b. b ≡ at_first steady false xs) (map steady xs)
+    × IntersectFits stage (length xs) (at_first cells [] xs)
+
+pub still_valid : {S : Type 0} (cells : S → List Cell) (steady : S → Bool) (valid : S → Type 0) (stage : IntersectStage) (new old rest : List S) (n : ℕ) → map cells new ≡ map cells old → map steady new ≡ map steady old → length old ≡ n → AllByRecursion valid new
+    → AllByRecursion (λ c. c ≡ at_first cells [] old) (map cells old) → AllByRecursion (λ b. b ≡ at_first steady false old) (map steady old) → IntersectFits stage (length old) (at_first cells [] old) → Fitting cells steady valid stage (take n (new ++ rest))
+still_valid cells steady valid stage new old rest n h k l v s a f =
+    subst (Fitting cells steady valid stage)
+    (sym (take_at new rest n (same_length cells new old h ∙ l)))
+    (v, same_first cells [] new old h s, same_first steady false new old k a, subst (λ count. IntersectFits stage count (at_first cells [] new)) (sym (same_length cells new old h)) (subst (IntersectFits stage (length old)) (sym (first_same cells [] new old h)) f))

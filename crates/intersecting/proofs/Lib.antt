@@ -1,4 +1,3 @@
-pub mod SameTexts
 pub mod Orders
 pub mod Elements
 pub mod Firsts

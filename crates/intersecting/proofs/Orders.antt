@@ -4,7 +4,6 @@ use Rattle.std.specs.Cmp.{IsTotalOrder}
 use Rattle.std.specs.List.{AllByRecursion, filter}
 use Rattle.std.specs.Ordering.{is_eq, is_gt, is_ge, ordering_then}
 use Rattle.std.proofs.lemmas.Cmp.{on_total, then_total, nat_list_cmp_total, tied_itself}
-use Rattle.std.proofs.lemmas.Map.Lookups.{exact_bytes}
 use Rattle.tablet_model.specs.Cell.{Cell, CellKey, column_of}
 use Rattle.tablet_model.specs.Order.{above, bytes_cmp, column_cmp, time_cmp, key_cmp}
 use Rattle.tablet_model.specs.Sorted.{Ascends, from_first}
@@ -17,6 +16,7 @@ use Rattle.tablet_model.proofs.CutLemmas.{key_le, gt_up, ge_back}
 use Rattle.tablet_model.proofs.Risings.{filter_in}
 use Rattle.tablet_model.proofs.Seeks.{wide_before, filter_same, from_first_is}
 use Rattle.tablet_model.proofs.Sums.{all_weaker, Ascends-filter}
+use Rattle.tablet_model.proofs.Texts.{ge-of-gt}
 use Rattle.intersecting.specs.Searches.{document_cmp, index_cmp, document_start, is_under, under}
 
 pub document_total : IsTotalOrder document_cmp
@@ -26,22 +26,6 @@ document_total = then_total (on_total (λ k. k.row) nat_list_cmp_total) (on_tota
 pub index_total : IsTotalOrder index_cmp
 unfolding index_cmp
 index_total = then_total (then_total (on_total (λ k. k.row) nat_list_cmp_total) (on_total (λ k. k.family) nat_list_cmp_total)) (on_total (λ k. k.qualifier) nat_list_cmp_total)
-
--- ---- texts
-
-pub itself : (a : List ℕ) → bytes_cmp a a ≡ Equal
-itself a = tied_itself nat_list_cmp_total a
-
-pub equal_texts : (a b : List ℕ) → same_bytes a b ≡ true → a ≡ b
-unfolding same_bytes
-equal_texts a b h = exact_bytes a b (tie (bytes_cmp a b) h)
-  where
-    tie : (o : Ordering) → is_eq o ≡ true → o ≡ Equal
-    tie o k = grind arith
-
-pub same_texts_itself : (a b : List ℕ) → a ≡ b → same_bytes a b ≡ true
-unfolding same_bytes
-same_texts_itself a b h = ap (λ c. is_eq (bytes_cmp a c)) (sym h) ∙ ap is_eq (itself a)
 
 -- ---- places don't fall where keys don't
 
@@ -104,11 +88,6 @@ under_is p y term = three (bytes_cmp p.key.row y.key.row) (bytes_cmp term y.key.
     three Equal Greater q = refl
     three Greater f q = refl
 
-gt_ge : (o : Ordering) → is_gt o ≡ true → is_ge o ≡ true
-gt_ge Less h = h
-gt_ge Equal h = refl
-gt_ge Greater h = refl
-
 from_same : (p q : Cell → Bool) (list : List Cell) → AllByRecursion (λ y. p y ≡ q y) list → from_first p list ≡ from_first q list
 from_same p q [] h = refl
 from_same p q (y ∷ ys) h = rw (h.0, from_same p q ys h.1) refl
@@ -127,7 +106,7 @@ unfolding under
 skipped p term list rising =
     from_same (λ y. not (is_under p term y)) behind part (all_weaker (λ y. is_ge (index_cmp y.key s) ≡ true) (λ y. not (is_under p term y) ≡ behind y) agree part (filter_holds (λ y. is_ge (index_cmp y.key s)) list))
     ∙ from_first_is behind (λ a b low h. gt_up index_total s a.key b.key h (above_le a b low)) part (Ascends-filter above above_exact (λ y. is_ge (index_cmp y.key s)) list rising)
-    ∙ filter_in behind (λ y. is_ge (index_cmp y.key s)) (λ y h. gt_ge (index_cmp y.key s) h) list
+    ∙ filter_in behind (λ y. is_ge (index_cmp y.key s)) (λ y h. ge-of-gt (index_cmp y.key s) h) list
   where
     s : CellKey
     s = document_start p term

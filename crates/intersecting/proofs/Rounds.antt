@@ -9,15 +9,17 @@ use Rattle.tablet_model.specs.Order.{bytes_cmp}
 use Rattle.tablet_model.specs.Cuts.{BehindRow}
 use Rattle.tablet_model.specs.Rows.{same_bytes, same_row, has_term}
 use Rattle.tablet_model.proofs.CutLemmas.{ge_back, gt_up}
+use Rattle.tablet_model.proofs.Bools.{both-of-and}
+use Rattle.tablet_model.proofs.Texts.{equal_texts, text_itself}
 use Rattle.intersecting.specs.Documents.{matches}
 use Rattle.intersecting.specs.Searches.{document_cmp, is_under, lies_from, in_later_row, left_by, places_left, shows, IsAdvance, IsAgreement, IsRound, IsRowStart, IsSearch}
 use Rattle.intersecting.specs.declared.asking.Step.{Step}
 use Rattle.intersecting.specs.declared.asking.Step.TheVariants.{Here, Ahead, Nowhere}
 use Rattle.intersecting.specs.declared.searching.Round.TheVariants.{Hit, On, Row}
-use Rattle.intersecting.proofs.Orders.{document_total, equal_texts, itself}
+use Rattle.intersecting.proofs.Orders.{document_total}
 use Rattle.intersecting.proofs.Firsts.{no, later_reaches}
 use Rattle.intersecting.proofs.Advances.{same_lies, same_has, not_back}
-use Rattle.intersecting.proofs.Agreements.{both, all_at, onward}
+use Rattle.intersecting.proofs.Agreements.{all_at, onward}
 
 -- ---- counts
 
@@ -64,11 +66,11 @@ any_has list d term t f h = any_more (is_under d term) t list (λ y u. let parts
 
 pub matches_all : (terms without : List (List ℕ)) (list : List Cell) (d : Cell) → matches terms without list d ≡ true → list_all (has_term list d) terms ≡ true
 unfolding matches
-matches_all terms without list d h = (both (list_all (has_term list d) terms) (not (list_any (has_term list d) without)) h).0
+matches_all terms without list d h = (both-of-and (list_all (has_term list d) terms) (not (list_any (has_term list d) without)) h).0
 
 all_later : (p : List ℕ → Bool) (terms : List (List ℕ)) → list_all p terms ≡ true → list_all p (drop 1 terms) ≡ true
 all_later p [] h = refl
-all_later p (t ∷ ts) h = (both (p t) (list_all p ts) h).1
+all_later p (t ∷ ts) h = (both-of-and (p t) (list_all p ts) h).1
 
 all_parts : (p : List ℕ → Bool) (terms : List (List ℕ)) (t : List ℕ) → 1 ≤ length terms → p (get_or terms 0 t) ≡ true → list_all p (drop 1 terms) ≡ true → list_all p terms ≡ true
 all_parts p [] t l h k = refl
@@ -229,7 +231,7 @@ row_parts : (p n y : Cell) → in_later_row p n ≡ true → same_bytes n.key.ro
 unfolding in_later_row
 row_parts p n y h s =
     let same : n.key.row ≡ y.key.row = equal_texts n.key.row y.key.row s in
-    two (ap (λ row. is_gt (bytes_cmp row p.key.row)) (sym same) ∙ h) (ap (λ row. is_gt (bytes_cmp row n.key.row)) (sym same) ∙ ap is_gt (itself n.key.row))
+    two (ap (λ row. is_gt (bytes_cmp row p.key.row)) (sym same) ∙ h) (ap (λ row. is_gt (bytes_cmp row n.key.row)) (sym same) ∙ ap is_gt (text_itself n.key.row))
   where
     two : {b c : Bool} → b ≡ true → c ≡ false → (b && not c) ≡ true
     two h k = grind arith

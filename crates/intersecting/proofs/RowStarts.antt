@@ -1,5 +1,5 @@
 -- The first row behind a cut at the border of a row.
-use Rattle.std.proofs.Common.{◌≡◌, ◌&&◌, not, ℕ, Bool, true, false, List, [], ◌∷◌, Some, None, refl, sym, ap, ◌∙◌, arith, Less, Equal, Greater, Ordering}
+use Rattle.std.proofs.Common.{◌≡◌, ◌&&◌, not, ℕ, Bool, true, false, List, [], ◌∷◌, Some, None, refl, sym, ap, ◌∙◌, Less, Equal, Greater, Ordering}
 use Rattle.std.specs.List.{AllByRecursion, filter}
 use Rattle.std.specs.Ordering.{is_gt, is_ge, ordering_then}
 use Rattle.std.proofs.lemmas.Cmp.{nat_list_cmp_total}
@@ -9,8 +9,9 @@ use Rattle.tablet_model.specs.Sorted.{Ascends, first}
 use Rattle.tablet_model.specs.Cuts.{Cut, Everything, Before, Behind, BeforeRow, BehindRow, is_behind, holds, within}
 use Rattle.tablet_model.specs.Rows.{same_bytes, has_term}
 use Rattle.tablet_model.proofs.CutLemmas.{ge_back, ge_up, gt_up}
+use Rattle.tablet_model.proofs.Bools.{both-of-and, false-of-not}
+use Rattle.tablet_model.proofs.Texts.{equal_texts, same_texts}
 use Rattle.intersecting.specs.Searches.{document_cmp, index_cmp, is_under, lies_from, is_at_row, IsRowStart}
-use Rattle.intersecting.proofs.Orders.{equal_texts, same_texts_itself}
 use Rattle.intersecting.proofs.Firsts.{no, has_witness, first_least, none_pass}
 
 -- whatever lies in a later row is behind such a cut too
@@ -43,10 +44,7 @@ and_true true = refl
 and_true false = refl
 
 under_row : (d y : Cell) (term : List ℕ) → is_under d term y ≡ true → d.key.row ≡ y.key.row
-under_row d y term h = equal_texts d.key.row y.key.row (left (same_bytes d.key.row y.key.row) (same_bytes term y.key.family && same_bytes d.key.qualifier y.key.qualifier) h)
-  where
-    left : (a b : Bool) → (a && b) ≡ true → a ≡ true
-    left a b h = grind arith
+under_row d y term h = equal_texts d.key.row y.key.row (both-of-and (same_bytes d.key.row y.key.row) (same_bytes term y.key.family && same_bytes d.key.qualifier y.key.qualifier) h).0
 
 module _ (list : List Cell) (rising : Ascends above list) (cut : Cut) (border : is_at_row cut ≡ true) where
   abbrev passes : Cell → Bool
@@ -94,11 +92,7 @@ module _ (list : List Cell) (rising : Ascends above list) (cut : Cut) (border : 
     turned a b h = ge_back nat_list_cmp_total b a ∙ ap not h
 
     back : (a b : List ℕ) → is_ge (bytes_cmp b a) ≡ true → is_gt (bytes_cmp a b) ≡ false
-    back a b h = flip (is_gt (bytes_cmp a b)) (sym (ge_back nat_list_cmp_total b a) ∙ h)
-      where
-        flip : (b : Bool) → not b ≡ true → b ≡ false
-        flip true k = sym k
-        flip false k = refl
+    back a b h = false-of-not (is_gt (bytes_cmp a b)) (sym (ge_back nat_list_cmp_total b a) ∙ h)
 
     rows_from : (d : Cell) (term : List ℕ) → has_term list d term ≡ true → is_behind cut d.key ≡ is_ge (bytes_cmp d.key.row e.key.row)
     rows_from d term has = has_witness list d term (is_behind cut d.key ≡ is_ge (bytes_cmp d.key.row e.key.row)) has (each list (first_least passes list e es rising found).0)
@@ -116,7 +110,7 @@ module _ (list : List Cell) (rising : Ascends above list) (cut : Cut) (border : 
 
     row_found : IsRowStart list cut n true
     row_found = record {
-      some = λ h. (first_least passes list e es rising found).2 (λ y. same_bytes n.key.row y.key.row) (same_texts_itself n.key.row e.key.row row);
+      some = λ h. (first_least passes list e es rising found).2 (λ y. same_bytes n.key.row y.key.row) (same_texts n.key.row e.key.row row);
       behind = λ h. by_row cut border n.key e.key row ∙ own;
       left = λ d term has. rows_from d term has ∙ sym (rows_decide d);
     }

@@ -2,16 +2,17 @@
 use Rattle.std.proofs.Common.{◌≡◌, ◌&&◌, ◌||◌, not, ℕ, Bool, true, false, cond, List, [], ◌∷◌, map, refl, sym, ap, ◌∙◌, Equal, Less, Greater, Ordering}
 use Rattle.std.specs.Prelude.{⊤}
 use Rattle.std.specs.List.{AllByRecursion, list_any}
-use Rattle.std.specs.Ordering.{is_eq, is_gt, ordering_then}
-use Rattle.std.proofs.lemmas.Cmp.{tied_itself, nat_list_cmp_total}
+use Rattle.std.specs.Ordering.{is_gt, ordering_then}
 use Rattle.std.proofs.lemmas.Map.Lookups.{exact_bytes}
 use Rattle.tablet_model.specs.Cell.{Cell}
 use Rattle.tablet_model.specs.Order.{above, cell_cmp, key_cmp, column_cmp, bytes_cmp}
 use Rattle.tablet_model.specs.Sorted.{Ascends}
 use Rattle.tablet_model.specs.Kept.{filter_beside}
 use Rattle.tablet_model.specs.Rows.{same_bytes, same_row, is_hit, leads_hit, intersect, intersect_terms}
+use Rattle.tablet_model.proofs.Bools.{both-of-and, false-of-not}
 use Rattle.tablet_model.proofs.CutLemmas.{key_le}
 use Rattle.tablet_model.proofs.Maps.{all_map}
+use Rattle.tablet_model.proofs.Texts.{equal_texts, same_texts, text_itself}
 use Rattle.intersecting.specs.Documents.{document_entry}
 use Rattle.intersecting.specs.Searches.{document_cmp}
 
@@ -24,24 +25,6 @@ abbrev pub Rises : List Cell → Type 0
 Rises [] = ⊤
 Rises (x ∷ xs) = AllByRecursion (λ y. document_cmp x.key y.key ≡ Less) xs × Rises xs
 
--- ---- texts
-
-tie : (o : Ordering) → is_eq o ≡ true → o ≡ Equal
-tie Less h = wrong Less Equal h
-tie Equal h = refl
-tie Greater h = wrong Greater Equal h
-
-equal_texts : (a b : List ℕ) → same_bytes a b ≡ true → a ≡ b
-unfolding same_bytes
-equal_texts a b h = exact_bytes a b (tie (bytes_cmp a b) h)
-
-itself : (a : List ℕ) → bytes_cmp a a ≡ Equal
-itself a = tied_itself nat_list_cmp_total a
-
-same_itself : (a b : List ℕ) → bytes_cmp b a ≡ Equal → same_bytes a b ≡ true
-unfolding same_bytes
-same_itself a b h = ap (λ c. is_eq (bytes_cmp a c)) (exact_bytes b a h) ∙ ap is_eq (itself a)
-
 -- ---- two documents
 
 module _ (first : List ℕ) (others without : List (List ℕ)) (list : List Cell) where
@@ -52,29 +35,20 @@ module _ (first : List ℕ) (others without : List (List ℕ)) (list : List Cell
   abbrev beside : Cell → Cell → Bool
   beside e y = same_row e y && (same_bytes first y.key.family && same_bytes e.key.qualifier y.key.qualifier)
 
-  left : (a b : Bool) → (a && b) ≡ true → a ≡ true
-  left true b h = refl
-  left false b h = h
-
-  lacks : (a b : Bool) → (a && not b) ≡ true → b ≡ false
-  lacks true true h = sym h
-  lacks true false h = refl
-  lacks false b h = wrong b false h
-
   pub leads_hits : (before : List Cell) (y : Cell) → leads before y ≡ true → is_hit first others without list y ≡ true
   unfolding leads_hit
-  leads_hits before y h = left (is_hit first others without list y) (not (list_any (beside y) before)) h
+  leads_hits before y h = (both-of-and (is_hit first others without list y) (not (list_any (beside y) before)) h).0
 
   leads_first : (before : List Cell) (y : Cell) → leads before y ≡ true → list_any (beside y) before ≡ false
   unfolding leads_hit
-  leads_first before y h = lacks (is_hit first others without list y) (list_any (beside y) before) h
+  leads_first before y h = false-of-not (list_any (beside y) before) (both-of-and (is_hit first others without list y) (not (list_any (beside y) before)) h).1
 
   of_first : (y : Cell) → is_hit first others without list y ≡ true → same_bytes first y.key.family ≡ true
   unfolding is_hit
-  of_first y h = left (same_bytes first y.key.family) _ h
+  of_first y h = (both-of-and (same_bytes first y.key.family) _ h).0
 
-  both : {a b c : Bool} → a ≡ true → b ≡ true → c ≡ true → (a && (b && c)) ≡ true
-  both {a = a} {b = b} {c = c} h k l = ap (λ a. a && (b && c)) h ∙ ap (λ b. b && c) k ∙ l
+  all_three : {a b c : Bool} → a ≡ true → b ≡ true → c ≡ true → (a && (b && c)) ≡ true
+  all_three {a = a} {b = b} {c = c} h k l = ap (λ a. a && (b && c)) h ∙ ap (λ b. b && c) k ∙ l
 
   decide : (r f q v t : Ordering) → f ≡ Equal → is_gt (ordering_then (ordering_then (ordering_then (ordering_then r f) q) v) t) ≡ false → (r ≡ Equal → q ≡ Equal → false ≡ true) → ordering_then r q ≡ Less
   decide Less f q v t e low other = refl
@@ -88,9 +62,9 @@ module _ (first : List ℕ) (others without : List (List ℕ)) (list : List Cell
   unfolding document_cmp key_cmp column_cmp same_row
   below e y fe fy up other =
       decide (bytes_cmp e.key.row y.key.row) (bytes_cmp e.key.family y.key.family) (bytes_cmp e.key.qualifier y.key.qualifier) _ _
-      (ap (bytes_cmp e.key.family) (sym (equal_texts first y.key.family fy) ∙ equal_texts first e.key.family fe) ∙ itself e.key.family)
+      (ap (bytes_cmp e.key.family) (sym (equal_texts first y.key.family fy) ∙ equal_texts first e.key.family fe) ∙ text_itself e.key.family)
       (key_le e y up)
-      (λ r q. sym other ∙ both (same_itself y.key.row e.key.row r) fe (same_itself y.key.qualifier e.key.qualifier q))
+      (λ r q. sym other ∙ all_three (same_texts y.key.row e.key.row (sym (exact_bytes e.key.row y.key.row r))) fe (same_texts y.key.qualifier e.key.qualifier (sym (exact_bytes e.key.qualifier y.key.qualifier q))))
 
   -- ---- what leads documents
 

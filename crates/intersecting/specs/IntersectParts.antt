@@ -21,15 +21,16 @@ module _ {S : Type 0} where
   abbrev pub iter_rest : (S → List Cell) → IntersectIter S → List Cell
   iter_rest cells it = intersect_left it.stage (at_first cells [] it.sources.items)
 
-  -- it isn't said to take no memory
-  abbrev pub iter_steady : IntersectIter S → Bool
-  iter_steady it = false
+  -- it is steady where its source is
+  abbrev pub iter_steady : (S → Bool) → IntersectIter S → Bool
+  iter_steady steady it = at_first steady false it.sources.items
 
-  -- the sources' parts fit together, they have the same entries, and the stage fits to them
-  abbrev pub iter_valid : (S → List Cell) → (S → Type 0) → IntersectIter S → Type 0
-  iter_valid cells valid it =
+  -- the sources' parts fit together, they have the same entries and are as steady as one another, and the stage fits to them
+  abbrev pub iter_valid : (S → List Cell) → (S → Bool) → (S → Type 0) → IntersectIter S → Type 0
+  iter_valid cells steady valid it =
       AllByRecursion valid it.sources.items
       × AllByRecursion (λ c. c ≡ at_first cells [] it.sources.items) (map cells it.sources.items)
+      × AllByRecursion (λ b. b ≡ at_first steady false it.sources.items) (map steady it.sources.items)
       × IntersectFits it.stage (length it.sources.items) (at_first cells [] it.sources.items)
 
   -- they are in order where the source's are

@@ -1,8 +1,9 @@
 //! Whether a document has several terms: each is asked of a source of its own.
-ghost use Rattle.std.specs.Prelude.{◌≡◌, ◌≤◌, ◌+◌, not, map, IsSome, IfOk, List, length};
+ghost use Rattle.std.specs.Prelude.{◌≡◌, ◌≤◌, ◌+◌, true, not, map, IsSome, IsOk, IfOk, List, length};
 ghost use Rattle.std.specs.List.{AllByRecursion, list_any};
 ghost use Rattle.tablet_model.specs.Cell.{Cell};
 ghost use Rattle.tablet_model.specs.Rows.{has_term};
+ghost use Rattle.iter_contract.specs.Several.{all_steady};
 ghost use Rattle.intersecting.specs.Searches.{place, IsAgreement};
 
 use crate::asking::{Step, advance, has};
@@ -22,8 +23,10 @@ pub(crate) fn ask_terms<S: SortedSource>(
     ensures valid { AllByRecursion S.valid sources.new }
     ensures kept { IsSome column.new }
     ensures cells { map S.cells sources.new ≡ map S.cells sources.old }
+    ensures steady { map S.steady sources.new ≡ map S.steady sources.old }
     ensures agreement { (list : List Cell) → AllByRecursion (λ cells. cells ≡ list) (map S.cells sources.old) →
         IfOk result (λ step. IsAgreement list terms.now (place column.old) (place column.new) step) }
+    ensures works { all_steady S.steady sources.old ≡ true → IsOk result }
 {
     let mut step = Step::Here;
     for (i, term) in terms.iter().enumerate() {
@@ -48,8 +51,10 @@ pub(crate) fn lacks_all<S: SortedSource>(
     requires count { from + length terms.now ≤ length sources.old }
     ensures valid { AllByRecursion S.valid sources.new }
     ensures cells { map S.cells sources.new ≡ map S.cells sources.old }
+    ensures steady { map S.steady sources.new ≡ map S.steady sources.old }
     ensures answer { (list : List Cell) → AllByRecursion (λ cells. cells ≡ list) (map S.cells sources.old) →
         IfOk result (λ answer. answer ≡ not (list_any (has_term list (place column.now)) terms.now)) }
+    ensures works { all_steady S.steady sources.old ≡ true → IsOk result }
 {
     for (i, term) in terms.iter().enumerate() {
         if has(&mut sources[from + i], column, term.bytes())? {

@@ -1,5 +1,5 @@
 //! What a source shows, seen from a document and a term.
-ghost use Rattle.std.specs.Prelude.{◌≡◌, IsSome, IfOk, length, option_map};
+ghost use Rattle.std.specs.Prelude.{◌≡◌, true, IsSome, IsOk, IfOk, length, option_map};
 ghost use Rattle.tablet_model.specs.Cell.{Cell};
 ghost use Rattle.tablet_model.specs.Sorted.{first};
 ghost use Rattle.tablet_model.specs.Rows.{has_term};
@@ -23,7 +23,7 @@ pub(crate) enum Step {
 }
 
 /// Where an entry stands, seen from the document of the kept column and a term.
-#[tactic(auto, using(crate::proofs::SameTexts::same_texts), unfolding(crate::specs::Searches::step_to))]
+#[tactic(auto, using(tablet_model::proofs::Texts::same_bytes_pointwise), unfolding(crate::specs::Searches::step_to))]
 fn step_to(column: &ColumnBuf, term: &[u8], top: Option<EntryRef<'_>>) -> Step
     requires { IsSome column.now }
     ensures { result ≡ step_to (place column.now) term.now (option_map cell_of top.entry) }
@@ -54,10 +54,12 @@ fn look<S: SortedSource>(
     requires kept { IsSome column.now }
     ensures valid { S.valid source.new }
     ensures cells { S.cells source.new ≡ S.cells source.old }
+    ensures steady { S.steady source.new ≡ S.steady source.old }
     ensures step { IfOk result (λ step. step ≡ step_to (place column.now) term.now
         (first (under behind (place column.now) term.now (S.cells source.old)))) }
     ensures rest { IfOk result (λ step. step ≡ Ahead →
         S.rest source.new ≡ under behind (place column.now) term.now (S.cells source.old)) }
+    ensures works { S.steady source.old ≡ true → IsOk result }
 {
     if term.len() > MAX_KEY_PART {
         return Ok(Step::Nowhere);
@@ -76,7 +78,9 @@ pub(crate) fn has<S: SortedSource>(
     requires kept { IsSome column.now }
     ensures valid { S.valid source.new }
     ensures cells { S.cells source.new ≡ S.cells source.old }
+    ensures steady { S.steady source.new ≡ S.steady source.old }
     ensures answer { IfOk result (λ answer. answer ≡ has_term (S.cells source.old) (place column.now) term.now) }
+    ensures works { S.steady source.old ≡ true → IsOk result }
 {
     Ok(matches!(look(source, column, term, false)?, Step::Here))
 }
@@ -94,7 +98,9 @@ pub(crate) fn advance<S: SortedSource>(
     ensures valid { S.valid source.new }
     ensures kept { IsSome column.new }
     ensures cells { S.cells source.new ≡ S.cells source.old }
+    ensures steady { S.steady source.new ≡ S.steady source.old }
     ensures advance { IfOk result (λ step. IsAdvance (S.cells source.old) term.now behind (place column.old) (place column.new) step) }
+    ensures works { S.steady source.old ≡ true → IsOk result }
 {
     let step = look(source, column, term, behind)?;
     if let Step::Ahead = step {

@@ -1,5 +1,5 @@
 //! Where a search in a range begins.
-ghost use Rattle.std.specs.Prelude.{◌≡◌, true, None, ℕ, List, IsSome, IfOk, option_map};
+ghost use Rattle.std.specs.Prelude.{◌≡◌, true, None, ℕ, List, IsSome, IsOk, IfOk, option_map};
 ghost use Rattle.tablet_model.specs.Cell.{Cell};
 ghost use Rattle.tablet_model.specs.Cuts.{is_behind};
 ghost use Rattle.tablet_model.specs.Rows.{has_term};
@@ -63,9 +63,11 @@ pub(crate) fn begin<S: SortedSource>(
     requires short { HasShortRow start }
     ensures valid { S.valid source.new }
     ensures cells { S.cells source.new ≡ S.cells source.old }
+    ensures steady { S.steady source.new ≡ S.steady source.old }
     ensures kept { IfOk result (λ behind. IsSome behind → IsSome column.new) }
     ensures left { IfOk result (λ behind. (d : Cell) (term : List ℕ) → has_term (S.cells source.old) d term ≡ true →
         d.key ≡ document_key d.key → is_behind (cut_of start.entry) d.key ≡ left_from behind (place column.new) d) }
+    ensures works { S.steady source.old ≡ true → IsOk result }
 {
     if let Some(key) = key_among(start) {
         column.set(key);

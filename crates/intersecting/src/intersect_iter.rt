@@ -22,7 +22,7 @@ pub struct IntersectIter<S> {
 }
 
 impl<S: SortedSource> IntersectIter<S> {
-    ghost use Rattle.std.specs.Prelude.{◌≤◌, ◌+◌, false, length, IfOk};
+    ghost use Rattle.std.specs.Prelude.{◌≤◌, ◌+◌, length, IfOk};
     ghost use Rattle.std.specs.Arc.{arc_value};
     ghost use Rattle.iter_contract.specs.Copies.{IsCopy};
     ghost use Rattle.tablet_model.specs.Rows.{intersect_terms};
@@ -30,7 +30,7 @@ impl<S: SortedSource> IntersectIter<S> {
 
     /// An iterator over a source, which may have been sought or not, for documents that have all of `terms`, at least one, and none
     /// of `without`; there are 16 terms in all at most. A marker counts as an entry. It makes a deep copy of the source for each
-    /// further term, and takes the memory that its other calls need beside those of its sources.
+    /// further term, and takes the memory that its other calls need beside those of its sources: it is steady where its source is.
     pub fn new(
         alloc: Global,
         source: S,
@@ -40,8 +40,8 @@ impl<S: SortedSource> IntersectIter<S> {
         requires valid { S.valid source }
         requires some { 1 ≤ length (arc_value terms) }
         requires few { length (arc_value terms) + length (arc_value without) ≤ 16 }
-        ensures { IfOk result (λ it. IsCopy (intersect_terms (arc_value terms) (arc_value without) (S.cells source)) false
-            (iter_cells S.cells it) (iter_rest S.cells it) (iter_steady it) (iter_valid S.cells S.valid it)) }
+        ensures { IfOk result (λ it. IsCopy (intersect_terms (arc_value terms) (arc_value without) (S.cells source)) (S.steady source)
+            (iter_cells S.cells it) (iter_rest S.cells it) (iter_steady S.steady it) (iter_valid S.cells S.steady S.valid it)) }
     {
         let copies = terms.len() - 1 + without.len();
         let sources = copied(alloc, source, copies)?;
@@ -57,9 +57,9 @@ impl<S: SortedSource> SortedSource for IntersectIter<S> {
 
     ghost rest = { iter_rest S.cells };
 
-    ghost steady = { iter_steady };
+    ghost steady = { iter_steady S.steady };
 
-    ghost valid = { iter_valid S.cells S.valid };
+    ghost valid = { iter_valid S.cells S.steady S.valid };
 
     ghost sorted = { iter_sorted S.cells S.sorted };
 

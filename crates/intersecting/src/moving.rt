@@ -1,5 +1,5 @@
 //! How a source is moved to a document under a term, and behind it.
-ghost use Rattle.std.specs.Prelude.{◌≡◌, ◌≤◌, true, IsSome, OnOk, not, length};
+ghost use Rattle.std.specs.Prelude.{◌≡◌, ◌≤◌, true, IsSome, IsOk, OnOk, not, length};
 ghost use Rattle.tablet_model.specs.Cell.{Cell};
 ghost use Rattle.tablet_model.specs.Cuts.{within, Before, Cut, Everything};
 ghost use Rattle.tablet_model.specs.Sorted.{from_first};
@@ -37,8 +37,10 @@ fn seek_document<S: SortedSource>(
     requires short { length term.now ≤ 1024 }
     ensures valid { S.valid source.new }
     ensures cells { S.cells source.new ≡ S.cells source.old }
+    ensures steady { S.steady source.new ≡ S.steady source.old }
     ensures rest { OnOk result (S.rest source.new ≡
         within (record { start = Before (document_start (place column.now) term.now); end = Everything }) (S.cells source.old)) }
+    ensures works { S.steady source.old ≡ true → IsOk result }
 {
     source.seek(&Range {
         start: Bound::At(document_start(column, term)),
@@ -47,7 +49,7 @@ fn seek_document<S: SortedSource>(
 }
 
 /// Whether the key is of the document of the kept column, under a term.
-#[tactic(auto, using(crate::proofs::SameTexts::same_texts))]
+#[tactic(auto, using(tablet_model::proofs::Texts::same_bytes_pointwise))]
 fn is_under(column: &ColumnBuf, term: &[u8], key: KeyRef<'_>) -> bool
     requires { IsSome column.now }
     ensures { (e : Cell) → e.key ≡ key_of key.entry → result ≡ is_under (place column.now) term.now e }
@@ -66,7 +68,9 @@ fn skip_document<S: SortedSource>(
     requires kept { IsSome column.now }
     ensures valid { S.valid source.new }
     ensures cells { S.cells source.new ≡ S.cells source.old }
+    ensures steady { S.steady source.new ≡ S.steady source.old }
     ensures rest { OnOk result (S.rest source.new ≡ from_first (λ e. not (is_under (place column.now) term.now e)) (S.rest source.old)) }
+    ensures works { S.steady source.old ≡ true → IsOk result }
 {
     while let Some(entry) = source.top() {
         if !is_under(column, term, entry.key) {
@@ -89,7 +93,9 @@ pub(crate) fn stand<S: SortedSource>(
     requires short { length term.now ≤ 1024 }
     ensures valid { S.valid source.new }
     ensures cells { S.cells source.new ≡ S.cells source.old }
+    ensures steady { S.steady source.new ≡ S.steady source.old }
     ensures rest { OnOk result (S.rest source.new ≡ under behind (place column.now) term.now (S.cells source.old)) }
+    ensures works { S.steady source.old ≡ true → IsOk result }
 {
     seek_document(source, column, term)?;
     if behind {

@@ -1,8 +1,9 @@
 //! A search for documents that have all terms and none of others.
-ghost use Rattle.std.specs.Prelude.{◌≡◌, ◌≤◌, ◌+◌, [], map, IsSome, IfOk, length, List};
+ghost use Rattle.std.specs.Prelude.{◌≡◌, ◌≤◌, ◌+◌, true, [], map, IsSome, IsOk, IfOk, length, List};
 ghost use Rattle.std.specs.List.{AllByRecursion};
 ghost use Rattle.tablet_model.specs.Cell.{Cell};
 ghost use Rattle.tablet_model.specs.Cuts.{BehindRow};
+ghost use Rattle.iter_contract.specs.Several.{all_steady};
 ghost use Rattle.intersecting.specs.Searches.{place, IsRound, IsRowStart, IsSearch};
 ghost use Rattle.intersecting.specs.Firsts.{at_first};
 
@@ -38,8 +39,10 @@ fn meet<S: SortedSource>(
     ensures valid { AllByRecursion S.valid sources.new }
     ensures kept { IsSome column.new }
     ensures cells { map S.cells sources.new ≡ map S.cells sources.old }
+    ensures steady { map S.steady sources.new ≡ map S.steady sources.old }
     ensures round { (list : List Cell) → AllByRecursion (λ cells. cells ≡ list) (map S.cells sources.old) →
         IfOk result (λ round. IsRound list terms.now without.now behind (place column.old) (place column.new) round) }
+    ensures works { all_steady S.steady sources.old ≡ true → IsOk result }
 {
     if let Step::Nowhere = advance(&mut sources[0], column, terms[0].bytes(), behind)? {
         return Ok(Round::Row);
@@ -62,8 +65,10 @@ fn next_row<S: SortedSource>(source: &mut S, column: &mut ColumnBuf) -> Result<b
     requires kept { IsSome column.old }
     ensures valid { S.valid source.new }
     ensures cells { S.cells source.new ≡ S.cells source.old }
+    ensures steady { S.steady source.new ≡ S.steady source.old }
     ensures kept { IfOk result (λ found. IsSome column.new) }
     ensures row { IfOk result (λ found. IsRowStart (S.cells source.old) (BehindRow (place column.old).key.row) (place column.new) found) }
+    ensures works { S.steady source.old ≡ true → IsOk result }
 {
     let row = column.key(0, false).row;
     source.seek(&Range {
@@ -90,8 +95,10 @@ pub(crate) fn search<S: SortedSource>(
     ensures valid { AllByRecursion S.valid sources.new }
     ensures kept { IfOk result (λ found. IsSome column.new) }
     ensures cells { map S.cells sources.new ≡ map S.cells sources.old }
+    ensures steady { map S.steady sources.new ≡ map S.steady sources.old }
     ensures search { IfOk result (λ found. IsSearch (at_first S.cells [] sources.old) terms.now without.now behind
         (place column.old) (place column.new) found) }
+    ensures works { all_steady S.steady sources.old ≡ true → IsOk result }
 {
     let mut is_behind = behind;
     loop {

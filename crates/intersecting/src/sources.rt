@@ -7,7 +7,7 @@ use cell_key::NoMemory;
 use iter_contract::SortedSource;
 use std::alloc::Global;
 
-/// A source, and behind it so many deep copies of it.
+/// A source, and behind it so many deep copies of it, each as steady as the source. It takes memory.
 pub fn copied<S: SortedSource>(alloc: Global, source: S, count: usize) -> Result<Vec<S>, NoMemory>
     requires valid { S.valid source }
     ensures valid { IfOk result (λ sources. AllByRecursion S.valid sources.items) }
@@ -16,6 +16,7 @@ pub fn copied<S: SortedSource>(alloc: Global, source: S, count: usize) -> Result
     ensures first { IfOk result (λ sources. at_first S.cells [] sources.items ≡ S.cells source) }
     ensures rest { IfOk result (λ sources. at_first S.rest [] sources.items ≡ S.rest source) }
     ensures steady { IfOk result (λ sources. at_first S.steady false sources.items ≡ S.steady source) }
+    ensures alike { IfOk result (λ sources. AllByRecursion (λ steady. steady ≡ S.steady source) (map S.steady sources.items)) }
 {
     let mut sources = Vec::new(alloc);
     sources.push(source)?;

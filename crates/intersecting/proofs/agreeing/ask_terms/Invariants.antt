@@ -13,5 +13,6 @@ invariant-loop-i g l =
       valid : AllByRecursion source.valid l.sources;
       kept : IsSome l.column;
       cells : map source.cells l.sources ≡ map source.cells l.fn.sources;
+      steady : map source.steady l.sources ≡ map source.steady l.fn.sources;
       gathered : (list : List Cell) → AllByRecursion (λ cells. cells ≡ list) (map source.cells l.fn.sources) → IsGathered list l.terms l.i (place l.fn.column) (place l.column) l.step;
     }

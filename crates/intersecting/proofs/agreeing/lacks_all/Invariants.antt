@@ -11,5 +11,6 @@ invariant-loop-i g l =
     record {
       valid : AllByRecursion source.valid l.sources;
       cells : map source.cells l.sources ≡ map source.cells l.fn.sources;
+      steady : map source.steady l.sources ≡ map source.steady l.fn.sources;
       left : (list : List Cell) → AllByRecursion (λ cells. cells ≡ list) (map source.cells l.fn.sources) → list_any (has_term list (place l.column)) (drop l.i l.terms) ≡ list_any (has_term list (place l.column)) l.terms;
     }

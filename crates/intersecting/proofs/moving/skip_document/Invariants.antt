@@ -11,6 +11,7 @@ invariant-loop-entry g l =
     record {
       valid : source.valid l.source;
       cells : source.cells l.source ≡ source.cells l.fn.source;
+      steady : source.steady l.source ≡ source.steady l.fn.source;
       rest : from_first others (source.rest l.source) ≡ from_first others (source.rest l.fn.source);
     }
 

@@ -1,9 +1,10 @@
 use Rattle.std.proofs.Common.{◌≡◌, ◌∙◌, drop, get_or, not, refl, sym, subst, arith}
+use Rattle.std.proofs.Math.Seq.{map-set_same}
 use Rattle.std.specs.Prelude.{map, slice_set}
 use Rattle.std.specs.List.{AllByRecursion, list_any}
 use Rattle.tablet_model.specs.Rows.{has_term}
 use Rattle.intersecting.specs.Searches.{place, IsAdvance, IsAgreement}
-use Rattle.intersecting.proofs.Elements.{map_set, same_at}
+use Rattle.intersecting.proofs.Elements.{same_at}
 use Rattle.intersecting.proofs.Advances.{shows_some}
 use Rattle.intersecting.proofs.Agreements.{advance_by}
 use Rattle.intersecting.proofs.Rounds.{others_are, round_nowhere, round_ends, round_moves, round_hits, round_passes}
@@ -23,11 +24,13 @@ returns-in-Nowhere-clause-round g c = λ list same.
 pub returns-in-Ahead : goal.returns-in-Ahead
 returns-in-Ahead g c =
     let cells = g.S.SortedSource.cells in
-    let set : map cells (slice_set c.args.sources.now 0 c.advance.new.source) ≡ map cells c.args.sources.now = map_set cells c.args.sources.now 0 c.advance.new.source c.index-sources-0.result c.advance.ensures.cells in
+    let set : map cells (slice_set c.args.sources.now 0 c.advance.new.source) ≡ map cells c.args.sources.now = map-set_same cells c.args.sources.now 0 c.advance.new.source c.index-sources-0.result c.advance.ensures.cells in
     record {
       valid = c.ask_terms.ensures.valid;
       kept = c.ask_terms.ensures.kept;
       cells = c.ask_terms.ensures.cells ∙ set;
+      steady = c.ask_terms.ensures.steady ∙ map-set_same g.S.SortedSource.steady c.args.sources.now 0 c.advance.new.source c.index-sources-0.result c.advance.ensures.steady;
+      works = λ all. refl;
       round = λ list same.
           let source = get_or c.args.sources.now 0 c.index-sources-0.result in
           let term = get_or c.args.terms.now 0 c.index-terms-0.result in
@@ -43,11 +46,13 @@ returns-in-Ahead g c =
 pub returns-in-Nowhere-2 : goal.returns-in-Nowhere-2
 returns-in-Nowhere-2 g c =
     let cells = g.S.SortedSource.cells in
-    let set : map cells (slice_set c.args.sources.now 0 c.advance.new.source) ≡ map cells c.args.sources.now = map_set cells c.args.sources.now 0 c.advance.new.source c.index-sources-0.result c.advance.ensures.cells in
+    let set : map cells (slice_set c.args.sources.now 0 c.advance.new.source) ≡ map cells c.args.sources.now = map-set_same cells c.args.sources.now 0 c.advance.new.source c.index-sources-0.result c.advance.ensures.cells in
     record {
       valid = c.ask_terms.ensures.valid;
       kept = c.ask_terms.ensures.kept;
       cells = c.ask_terms.ensures.cells ∙ set;
+      steady = c.ask_terms.ensures.steady ∙ map-set_same g.S.SortedSource.steady c.args.sources.now 0 c.advance.new.source c.index-sources-0.result c.advance.ensures.steady;
+      works = λ all. refl;
       round = λ list same.
           let source = get_or c.args.sources.now 0 c.index-sources-0.result in
           let term = get_or c.args.terms.now 0 c.index-terms-0.result in
@@ -63,11 +68,13 @@ returns-in-Nowhere-2 g c =
 pub returns-then-branch : goal.returns-then-branch
 returns-then-branch g c =
     let cells = g.S.SortedSource.cells in
-    let set : map cells (slice_set c.args.sources.now 0 c.advance.new.source) ≡ map cells c.args.sources.now = map_set cells c.args.sources.now 0 c.advance.new.source c.index-sources-0.result c.advance.ensures.cells in
+    let set : map cells (slice_set c.args.sources.now 0 c.advance.new.source) ≡ map cells c.args.sources.now = map-set_same cells c.args.sources.now 0 c.advance.new.source c.index-sources-0.result c.advance.ensures.cells in
     record {
       valid = c.lacks_all.ensures.valid;
       kept = c.ask_terms.ensures.kept;
       cells = c.lacks_all.ensures.cells ∙ c.ask_terms.ensures.cells ∙ set;
+      steady = c.lacks_all.ensures.steady ∙ c.ask_terms.ensures.steady ∙ map-set_same g.S.SortedSource.steady c.args.sources.now 0 c.advance.new.source c.index-sources-0.result c.advance.ensures.steady;
+      works = λ all. refl;
       round = λ list same.
           let source = get_or c.args.sources.now 0 c.index-sources-0.result in
           let term = get_or c.args.terms.now 0 c.index-terms-0.result in
@@ -84,11 +91,13 @@ returns-then-branch g c =
 pub returns-else-branch : goal.returns-else-branch
 returns-else-branch g c =
     let cells = g.S.SortedSource.cells in
-    let set : map cells (slice_set c.args.sources.now 0 c.advance.new.source) ≡ map cells c.args.sources.now = map_set cells c.args.sources.now 0 c.advance.new.source c.index-sources-0.result c.advance.ensures.cells in
+    let set : map cells (slice_set c.args.sources.now 0 c.advance.new.source) ≡ map cells c.args.sources.now = map-set_same cells c.args.sources.now 0 c.advance.new.source c.index-sources-0.result c.advance.ensures.cells in
     record {
       valid = c.lacks_all.ensures.valid;
       kept = c.ask_terms.ensures.kept;
       cells = c.lacks_all.ensures.cells ∙ c.ask_terms.ensures.cells ∙ set;
+      steady = c.lacks_all.ensures.steady ∙ c.ask_terms.ensures.steady ∙ map-set_same g.S.SortedSource.steady c.args.sources.now 0 c.advance.new.source c.index-sources-0.result c.advance.ensures.steady;
+      works = λ all. refl;
       round = λ list same.
           let source = get_or c.args.sources.now 0 c.index-sources-0.result in
           let term = get_or c.args.terms.now 0 c.index-terms-0.result in

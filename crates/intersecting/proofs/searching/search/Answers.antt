@@ -1,10 +1,12 @@
 use Rattle.std.proofs.Common.{◌≡◌, ◌∙◌, [], length, map, get_or, sym, subst, arith}
+use Rattle.std.proofs.Math.Seq.{map-set_same}
 use Rattle.std.specs.List.{AllByRecursion}
 use Rattle.tablet_model.specs.Cuts.{BehindRow}
 use Rattle.intersecting.specs.Firsts.{at_first}
 use Rattle.intersecting.specs.Searches.{place, IsRound, IsRowStart}
 use Rattle.intersecting.specs.declared.searching.Round.TheVariants.{Row}
-use Rattle.intersecting.proofs.Elements.{all_set, map_set, same_at, same_length}
+use Rattle.iter_contract.proofs.Elements.{all_set, same_length}
+use Rattle.intersecting.proofs.Elements.{same_at}
 use Rattle.intersecting.proofs.Rounds.{left_none, left_row, row_closer}
 use Rattle.intersecting.proofs.searching.search.Goals as goal
 
@@ -60,6 +62,7 @@ loop-next-preserved g c =
     record {
       valid = all_set g.S.SortedSource.valid c.meet.new.sources 0 c.next_row.new.source c.meet.ensures.valid c.next_row.ensures.valid;
       kept = c.in_ok-next_row-in-Row.ensures.kept;
-      cells = map_set cells c.meet.new.sources 0 c.next_row.new.source c.index-sources-0.result c.next_row.ensures.cells ∙ stays;
+      cells = map-set_same cells c.meet.new.sources 0 c.next_row.new.source c.index-sources-0.result c.next_row.ensures.cells ∙ stays;
+      steady = map-set_same g.S.SortedSource.steady c.meet.new.sources 0 c.next_row.new.source c.index-sources-0.result c.next_row.ensures.steady ∙ c.meet.ensures.steady ∙ c.loop-next.invariant.steady;
       left = left_row list c.args.terms.now c.args.without.now c.args.behind p c.requires.some c.loop-next.is_behind n m r found c.if-not-branch.false c.loop-next.invariant.left round start;
     }

@@ -14,6 +14,7 @@ invariant-loop-next g l =
       valid : AllByRecursion source.valid l.sources;
       kept : IsSome l.column;
       cells : map source.cells l.sources ≡ map source.cells l.fn.sources;
+      steady : map source.steady l.sources ≡ map source.steady l.fn.sources;
       left : IsLeft list l.terms l.without l.behind (place l.fn.column) l.is_behind (place l.column);
     }
 

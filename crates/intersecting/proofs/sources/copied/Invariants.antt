@@ -13,4 +13,5 @@ invariant-loop g l =
       first : at_first source.cells [] l.sources.items ≡ source.cells l.fn.source;
       rest : at_first source.rest [] l.sources.items ≡ source.rest l.fn.source;
       steady : at_first source.steady false l.sources.items ≡ source.steady l.fn.source;
+      alike : AllByRecursion (λ steady. steady ≡ source.steady l.fn.source) (map source.steady l.sources.items);
     }
