@@ -10,13 +10,11 @@ use Rattle.tablet_model.specs.Cuts.{Cut, Everything, Before, Behind, BeforeRow, 
 use Rattle.tablet_model.specs.Widened.{column_start, widened_cut}
 use Rattle.tablet_model.proofs.Orders.{exact_columns, column_total, key_total}
 use Rattle.tablet_model.proofs.Seeks.{wide_before}
+use Rattle.tablet_model.proofs.Texts.{equal-of-is_eq}
 
 -- columns that compare as equal are equal
 pub equal_columns : (c d : Column) → eq_by_cmp column_cmp c d ≡ true → c ≡ d
-equal_columns c d h = exact_columns c d (tie (column_cmp c d) h)
-  where
-    tie : (o : Ordering) → is_eq o ≡ true → o ≡ Equal
-    tie o k = grind arith
+equal_columns c d h = exact_columns c d (equal-of-is_eq (column_cmp c d) h)
 
 -- the kept column is that of what it holds
 pub kept_is : (c : Option Column) (d : Column) → is_column c d ≡ true → c ≡ Some d

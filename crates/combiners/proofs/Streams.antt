@@ -20,7 +20,9 @@ use Rattle.tablet_model.proofs.Risings.{Ascends-combined}
 use Rattle.cell_key.specs.declared.column_name.ColumnName.{ColumnName}
 use Rattle.cell_key.specs.Listed.{column_listed, is_listed, listed_of_columns}
 use Rattle.combiners.specs.CombineLaws.{combined_bounded}
-use Rattle.combiners.specs.Gathers.{Held, combined_from, AreRead, joins, held_with, held_from, stands, up_to}
+use Rattle.iter_contract.specs.Ends.{up_to}
+use Rattle.iter_contract.proofs.Ends.{up_to_is}
+use Rattle.combiners.specs.Gathers.{Held, combined_from, AreRead, joins, held_with, held_from, stands}
 use Rattle.combiners.proofs.OfColumns.{same_key, whole_column, equal_columns}
 use Rattle.combiners.proofs.Passes.{pass_is, stand_parts}
 
@@ -129,24 +131,6 @@ from_twice p q (x ∷ xs) h = go (q x) (p x) refl refl h.0 (from_twice p q xs h.
     go true d k m f i = ap (λ d. cond d (x ∷ xs) (from_first p xs)) m
     go false false k m f i = i
     go false true k m f i = let no : false ≡ true = sym k ∙ f m in cc
-
--- in order, what stands before the first that fails is all that passes
-up_to_is : (p : Cell → Bool) → ((x y : Cell) → above x y ≡ false → p y ≡ true → p x ≡ true) → (list : List Cell) → Ascends above list → up_to p list ≡ filter p list
-unfolding Ascends
-up_to_is p down [] up = refl
-up_to_is p down (x ∷ xs) up = go (p x) refl (up_to_is p down xs up.1)
-  where
-    nothing : (ys : List Cell) → AllByRecursion (λ y. p y ≡ false) ys → filter p ys ≡ []
-    nothing [] h = refl
-    nothing (y ∷ ys) h = ap (λ b. cond b (y ∷ filter p ys) (filter p ys)) h.0 ∙ nothing ys h.1
-
-    fails : p x ≡ false → (y : Cell) → above x y ≡ false → (b : Bool) → p y ≡ b → b ≡ false
-    fails k y low false m = refl
-    fails k y low true m = sym (down x y low m) ∙ k
-
-    go : (b : Bool) → p x ≡ b → up_to p xs ≡ filter p xs → cond b (x ∷ up_to p xs) [] ≡ cond b (x ∷ filter p xs) (filter p xs)
-    go true k i = ap (λ l. x ∷ l) i
-    go false k i = sym (nothing xs (all_weaker (λ y. above x y ≡ false) (λ y. p y ≡ false) (λ y low. fails k y low (p y) refl) xs up.0))
 
 -- a pass over whole columns, cut at both ends
 seek_rest : (names : List ColumnName) (r : Reduction) (s : Span) (cells : List Cell) → Ascends above cells → AreEntries cells → AreInFront (column_listed names) [] cells

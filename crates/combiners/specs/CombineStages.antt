@@ -7,7 +7,8 @@ use Rattle.tablet_model.specs.Combines.{combine_columns}
 use Rattle.tablet_model.specs.Reading.{AreInFront}
 use Rattle.tablet_model.specs.Reductions.{Reduction}
 use Rattle.cell_key.specs.Listed.{column_listed}
-use Rattle.combiners.specs.Gathers.{combined_from, AreRead, held_of, is_whole, is_settled, up_to}
+use Rattle.iter_contract.specs.Ends.{up_to}
+use Rattle.combiners.specs.Gathers.{combined_from, AreRead, held_of, is_whole, is_settled}
 use Rattle.combiners.specs.declared.stage.CombineStage.{CombineStage}
 
 module _ {R : Type 0} where

@@ -70,8 +70,3 @@ abbrev pub is_settled : List ColumnName → Option Held → List Cell → Bool
 is_settled names held [] = true
 is_settled names None (e ∷ es) = stands names e
 is_settled names (Some held) (e ∷ es) = not (joins (Some held) e)
-
--- the elements before the first that fails a test
-abbrev pub up_to : (Cell → Bool) → List Cell → List Cell
-up_to p [] = []
-up_to p (x ∷ xs) = cond (p x) (x ∷ up_to p xs) []

@@ -2,6 +2,7 @@
 use Rattle.std.proofs.Common.{◌≡◌, ℕ, zero, suc, ◌+◌, ◌<◌, ◌≤◌, ◌&&◌, Bool, true, List, [], ◌∷◌, length, map, take, drop, get_or, set, sym, ◌∙◌, ap, subst, arith}
 use Rattle.std.proofs.lemmas.List.{length-map, take_all, take_more_set}
 use Rattle.std.specs.List.{AllByRecursion, list_all}
+use Rattle.tablet_model.proofs.Bools.{both-of-and}
 use Rattle.tablet_model.proofs.Merges.{all_append}
 
 -- of the element at a place
@@ -30,14 +31,11 @@ all_dropped P xs zero h = h
 all_dropped P [] (suc i) h = tt
 all_dropped P (x ∷ xs) (suc i) h = all_dropped P xs i h.1
 
-both : (a b : Bool) → (a && b) ≡ true → (a ≡ true) × (b ≡ true)
-both a b h = grind arith
-
 -- where all tests hold, so does that of an element
 pub test_read : {X : Type 0} (f : X → Bool) (xs : List X) (i : ℕ) (x : X) → list_all (λ b. b) (map f xs) ≡ true → i < length xs → f (get_or xs i x) ≡ true
 test_read f [] i x h l = absurd (omega arith)
-test_read f (y ∷ ys) zero x h l = (both (f y) (list_all (λ b. b) (map f ys)) h).0
-test_read f (y ∷ ys) (suc i) x h l = test_read f ys i x (both (f y) (list_all (λ b. b) (map f ys)) h).1 (omega arith)
+test_read f (y ∷ ys) zero x h l = (both-of-and (f y) (list_all (λ b. b) (map f ys)) h).0
+test_read f (y ∷ ys) (suc i) x h l = test_read f ys i x (both-of-and (f y) (list_all (λ b. b) (map f ys)) h).1 (omega arith)
 
 -- lists of which a function gives the same are of one length
 pub same_length : {X Y : Type 0} (f : X → Y) (xs ys : List X) → map f xs ≡ map f ys → length xs ≡ length ys

@@ -1,4 +1,5 @@
 pub mod Elements
+pub mod Ends
 pub mod FirstTops
 pub mod Following
 pub mod Moves

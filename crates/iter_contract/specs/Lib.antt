@@ -3,3 +3,4 @@ pub mod Following
 pub mod VecRest
 pub mod Props
 pub mod Several
+pub mod Ends

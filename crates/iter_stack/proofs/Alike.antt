@@ -20,7 +20,8 @@ use Rattle.number_values.specs.declared.op.Op.{Op}
 use Rattle.number_values.specs.declared.op.Op.TheVariants as op
 use Rattle.combiners.specs.ArrayParts.{array_reducer_reduction, array_reducer_joined}
 use Rattle.combiners.specs.CombineStages.{combine_left, CombineFits}
-use Rattle.combiners.specs.Gathers.{AreRead, combined_from, held_of, up_to}
+use Rattle.iter_contract.specs.Ends.{up_to}
+use Rattle.combiners.specs.Gathers.{AreRead, combined_from, held_of}
 use Rattle.combiners.specs.LongParts.{long_reduction, long_joined}
 use Rattle.combiners.specs.declared.array_reducer.ArrayReducer.{ArrayReducer}
 use Rattle.combiners.specs.declared.long_reducer.LongReducer.{LongReducer}

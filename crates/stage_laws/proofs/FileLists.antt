@@ -6,6 +6,7 @@ use Rattle.tablet_model.specs.Cell.{Cell}
 use Rattle.tablet_model.specs.Stands.{AreApartIds, AreBelow, AreRising, AreThere}
 use Rattle.tablet_model.specs.Steps.{ids_of, takes_all}
 use Rattle.tablet_model.specs.Store.{File, cells_of, has_id, files_with, files_without}
+use Rattle.tablet_model.proofs.Bools.{both-of-and}
 use Rattle.tablet_model.proofs.Merges.{all_append, all_left, all_right}
 use Rattle.tablet_model.proofs.Sums.{all_filter, all_weaker}
 use Rattle.stage_laws.proofs.Kept.{absurd_bool}
@@ -91,11 +92,8 @@ or_right a b h = grind arith
 pub nor : (a b : Bool) → (a || b) ≡ false → (a ≡ false) × (b ≡ false)
 nor a b h = grind arith
 
-not_true : (b : Bool) → b ≡ false → not b ≡ true
+pub not_true : (b : Bool) → b ≡ false → not b ≡ true
 not_true b h = grind arith
-
-pub true_not : (b : Bool) → not b ≡ true → b ≡ false
-true_not b h = grind arith
 
 -- what an `or` shows
 or_elim : (P : Type 0) (a b : Bool) → (a || b) ≡ true → (a ≡ true → P) → (b ≡ true → P) → P
@@ -172,11 +170,8 @@ pub none_unnamed : (ids : List ℕ) (files : List File) → takes_all ids files 
 unfolding takes_all files_without
 none_unnamed ids [] h = refl
 none_unnamed ids (f ∷ fs) h =
-    let k : (has_id ids f.id ≡ true) × (list_all (λ f. has_id ids f.id) fs ≡ true) = both (has_id ids f.id) (list_all (λ f. has_id ids f.id) fs) h in
+    let k : (has_id ids f.id ≡ true) × (list_all (λ f. has_id ids f.id) fs ≡ true) = both-of-and (has_id ids f.id) (list_all (λ f. has_id ids f.id) fs) h in
     ap (λ b. cond (not b) (f ∷ files_without ids fs) (files_without ids fs)) k.0 ∙ none_unnamed ids fs k.1
-  where
-    both : (a b : Bool) → (a && b) ≡ true → (a ≡ true) × (b ≡ true)
-    both a b h = grind arith
 
 pub outside_others : (f : File) (others ids : List ℕ) → AreApartIds ids others → has_id ids f.id ≡ true → has_id others f.id ≡ false
 unfolding has_id

@@ -9,12 +9,10 @@ use Rattle.tablet_model.specs.Sorted.{sorted}
 use Rattle.tablet_model.specs.Stands.{AreApartIds, AreThere, StandsInJobs}
 use Rattle.tablet_model.specs.Steps.{Event, apply, compact, compact_all, find_job, finish, flush, freeze, frozen_there, is_empty, made_by, nothing_in_memory, refuse, step, store_after, with_job, without_job}
 use Rattle.tablet_model.specs.Store.{File, RunningJob, Store, cells_of, frozen_of, has_id, input_of, files_with, files_without}
-use Rattle.stage_laws.proofs.FileLists.{named_next, not_next, outside_others, true_not}
+use Rattle.tablet_model.proofs.Bools.{false-of-not}
+use Rattle.stage_laws.proofs.FileLists.{named_next, not_next, not_true, outside_others}
 use Rattle.stage_laws.proofs.Jobs.{apart_sym, found_job}
 use Rattle.stage_laws.proofs.Kept.{absurd_bool}
-
-not_false : (b : Bool) → b ≡ false → not b ≡ true
-not_false b h = grind arith
 
 filter_within_files : (test p : File → Bool) → ((x : File) → test x ≡ true → p x ≡ true) → (xs : List File) → filter test (filter p xs) ≡ filter test xs
 filter_within_files test p h [] = refl
@@ -29,7 +27,7 @@ filter_within_files test p h (x ∷ xs) = go (p x) refl (test x) refl (filter_wi
 -- what another job takes away is not among them
 named_unnamed : (ids others : List ℕ) (files : List File) → AreApartIds ids others → files_with ids (files_without others files) ≡ files_with ids files
 unfolding files_with files_without
-named_unnamed ids others files a = filter_within_files (λ f. has_id ids f.id) (λ f. not (has_id others f.id)) (λ f h. not_false (has_id others f.id) (outside_others f others ids a h)) files
+named_unnamed ids others files a = filter_within_files (λ f. has_id ids f.id) (λ f. not (has_id others f.id)) (λ f h. not_true (has_id others f.id) (outside_others f others ids a h)) files
 
 pub all_true : {X : Type 0} (p : X → Bool) (xs : List X) → AllByRecursion (λ x. p x ≡ true) (filter p xs)
 all_true p [] = tt
@@ -46,7 +44,7 @@ named_flushed c s j t cells h f = named_next t.ids s.files (record { id = s.next
 -- another job ends
 named_finished : (c : Rules) (s : Store) (i j : ℕ) (u t : RunningJob) → StandsInJobs c s → find_job i s.jobs ≡ Some u → find_job j s.jobs ≡ Some t → find_job j (filter (λ v. not (eqb u.job v.job)) s.jobs) ≡ Some t → files_with t.ids (files_without u.ids s.files ++ record { id = s.next; cells = made_by c s u } ∷ []) ≡ files_with t.ids s.files
 named_finished c s i j u t h fu ft left =
-    let other : eqb u.job t.job ≡ false = true_not (eqb u.job t.job) (found_job (λ v. not (eqb u.job v.job) ≡ true) j (filter (λ v. not (eqb u.job v.job)) s.jobs) t left (all_true (λ v. not (eqb u.job v.job)) s.jobs)) in
+    let other : eqb u.job t.job ≡ false = false-of-not (eqb u.job t.job) (found_job (λ v. not (eqb u.job v.job) ≡ true) j (filter (λ v. not (eqb u.job v.job)) s.jobs) t left (all_true (λ v. not (eqb u.job v.job)) s.jobs)) in
     let apart : AreApartIds u.ids t.ids = found_job (λ v. eqb u.job v.job ≡ false → AreApartIds u.ids v.ids) j s.jobs t ft (found_job (λ u. AllByRecursion (λ v. eqb u.job v.job ≡ false → AreApartIds u.ids v.ids) s.jobs) i s.jobs u fu h.files_apart) other in
     named_next t.ids (files_without u.ids s.files) (record { id = s.next; cells = made_by c s u }) (not_next s.next s.files t.ids h.below (found_job (λ t. AreThere s.files t.ids) j s.jobs t ft h.files_there))
     ∙ named_unnamed t.ids u.ids s.files (apart_sym u.ids t.ids apart)

@@ -6,6 +6,7 @@ use Rattle.tablet_model.specs.Cell.{Cell}
 use Rattle.tablet_model.specs.Order.{above}
 use Rattle.tablet_model.specs.Sorted.{Ascends, from_first}
 use Rattle.tablet_model.specs.Cuts.{Span, is_behind, is_before, holds, within}
+use Rattle.tablet_model.proofs.Bools.{both-of-and}
 use Rattle.tablet_model.proofs.Columns.{filter_filter}
 use Rattle.tablet_model.proofs.CutLemmas.{GoesUp}
 use Rattle.tablet_model.proofs.Orders.{above_exact}
@@ -24,10 +25,6 @@ and_swap true false = refl
 and_swap false true = refl
 and_swap false false = refl
 
-and_left : (a b : Bool) → (a && b) ≡ true → a ≡ true
-and_left true b h = refl
-and_left false b h = h
-
 -- from the first on, where all pass
 from_first_same : (b p h : Cell → Bool) → ((e : Cell) → h e ≡ true → b e ≡ true) → (list : List Cell) → from_first b (filter p (filter h list)) ≡ filter p (filter h list)
 from_first_same b p h all [] = refl
@@ -45,7 +42,7 @@ from_first_same b p h all (e ∷ es) = go (h e) refl (from_first_same b p h all 
 -- a range of what passes is what passes of the range
 pub test_narrows : (p : Cell → Bool) (s : Span) (list : List Cell) → from_first (λ e. is_behind s.start e.key) (filter p (within s list)) ≡ within s (filter p list)
 test_narrows p s list =
-    from_first_same (λ e. is_behind s.start e.key) p (λ e. holds s e.key) (λ e. and_left (is_behind s.start e.key) (is_before s.end e.key)) list
+    from_first_same (λ e. is_behind s.start e.key) p (λ e. holds s e.key) (λ e h. (both-of-and (is_behind s.start e.key) (is_before s.end e.key) h).0) list
     ∙ filter_filter p (λ e. holds s e.key) list
     ∙ filter_agree (λ e. holds s e.key && p e) (λ e. p e && holds s e.key) (λ e. and_swap (holds s e.key) (p e)) list
     ∙ sym (filter_filter (λ e. holds s e.key) p list)

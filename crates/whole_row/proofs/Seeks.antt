@@ -19,7 +19,9 @@ use Rattle.tablet_model.proofs.Texts.{equal_texts, same_texts, ge-of-gt}
 use Rattle.tablet_model.proofs.Seeks.{from_first_is, filter_both, filter_same}
 use Rattle.tablet_model.specs.RowText.{row_text, whole_rows}
 use Rattle.whole_row.specs.RowLaws.{Ascends-whole_rows}
-use Rattle.whole_row.specs.RowPasses.{Held, rows_from, up_to}
+use Rattle.iter_contract.specs.Ends.{up_to}
+use Rattle.iter_contract.proofs.Ends.{up_to_is}
+use Rattle.whole_row.specs.RowPasses.{Held, rows_from}
 use Rattle.whole_row.specs.RowStages.{row_cut}
 use Rattle.whole_row.proofs.Passes.{pass_is}
 
@@ -80,24 +82,6 @@ row_first (BeforeRow r) k h = h
 row_first (BehindRow r) k h = h
 
 -- ---- the ends of a range
-
--- in order, what stands before the first that fails is all that passes
-up_to_is : (p : Cell → Bool) → ((x y : Cell) → above x y ≡ false → p y ≡ true → p x ≡ true) → (list : List Cell) → Ascends above list → up_to p list ≡ filter p list
-unfolding Ascends
-up_to_is p down [] up = refl
-up_to_is p down (x ∷ xs) up = go (p x) refl (up_to_is p down xs up.1)
-  where
-    nothing : (ys : List Cell) → AllByRecursion (λ y. p y ≡ false) ys → filter p ys ≡ []
-    nothing [] h = refl
-    nothing (y ∷ ys) h = ap (λ b. cond b (y ∷ filter p ys) (filter p ys)) h.0 ∙ nothing ys h.1
-
-    fails : p x ≡ false → (y : Cell) → above x y ≡ false → (b : Bool) → p y ≡ b → b ≡ false
-    fails k y low false m = refl
-    fails k y low true m = sym (down x y low m) ∙ k
-
-    go : (b : Bool) → p x ≡ b → up_to p xs ≡ filter p xs → cond b (x ∷ up_to p xs) [] ≡ cond b (x ∷ filter p xs) (filter p xs)
-    go true k i = ap (λ l. x ∷ l) i
-    go false k i = sym (nothing xs (all_weaker (λ y. above x y ≡ false) (λ y. p y ≡ false) (λ y low. fails k y low (p y) refl) xs up.0))
 
 -- a pass over whole rows, cut at both ends
 seek_rest : (s : Span) (cells : List Cell) → Ascends above cells

@@ -59,8 +59,3 @@ is_settled (Some held) (e ∷ es) = not (joins (Some held) e)
 abbrev pub is_row : Option Column → List ℕ → Bool
 is_row None row = false
 is_row (Some c) row = same_bytes c.row row
-
--- the elements before the first that fails a test
-abbrev pub up_to : (Cell → Bool) → List Cell → List Cell
-up_to p [] = []
-up_to p (x ∷ xs) = cond (p x) (x ∷ up_to p xs) []

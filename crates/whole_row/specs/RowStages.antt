@@ -3,7 +3,8 @@ use Rattle.std.specs.Prelude.{◌≡◌, true, cond, List, []}
 use Rattle.tablet_model.specs.Cell.{Cell}
 use Rattle.tablet_model.specs.Cuts.{Cut, Everything, Before, Behind, BeforeRow, BehindRow, is_before}
 use Rattle.whole_row.specs.RowLists.{AreLive}
-use Rattle.whole_row.specs.RowPasses.{rows_from, held_of, is_whole, is_settled, up_to}
+use Rattle.iter_contract.specs.Ends.{up_to}
+use Rattle.whole_row.specs.RowPasses.{rows_from, held_of, is_whole, is_settled}
 use Rattle.whole_row.specs.declared.stage.RowStage.{RowStage}
 
 -- a start, moved to the beginning of its row
