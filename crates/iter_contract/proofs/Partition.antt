@@ -11,7 +11,7 @@ use Rattle.tablet_model.specs.Cell.{Cell}
 use Rattle.tablet_model.specs.Order.{above}
 use Rattle.tablet_model.specs.Sorted.{Ascends, first, later}
 use Rattle.tablet_model.specs.Cuts.{Cut, Span, is_behind, is_before, within}
-use Rattle.tablet_model.proofs.Bools.{false-of-not}
+use Rattle.tablet_model.proofs.Bools.{false-of-not, true-of-not}
 use Rattle.tablet_model.proofs.Orders.{cell_total}
 use Rattle.tablet_model.proofs.CutLemmas.{before_down, behind_up, key_le}
 use Rattle.tablet_model.proofs.Seeks.{filter_both}
@@ -61,14 +61,10 @@ filter_to test [] i p = sym (take-nil i)
 filter_to test (x ∷ xs) zero p = rw (p.1 zero x (omega arith) (omega arith)) (filter_to test xs zero (point_none test x xs p))
 filter_to test (x ∷ xs) (suc i) p = rw (p.0 zero x (omega arith) (omega arith)) (ap (λ ys. x ∷ ys) (filter_to test xs i (point_next test x xs i p)))
 
-forth : (b : Bool) → not b ≡ false → b ≡ true
-forth true h = refl
-forth false h = sym h
-
 -- the test fails below the place
 pub filter_from : (test : Cell → Bool) (list : List Cell) (i : ℕ) → IsPartitionPoint (λ y. not (test y) ≡ true) (λ y. not (test y) ≡ false) list i → filter test list ≡ drop i list
 filter_from test [] i p = sym (drop-nil i)
-filter_from test (x ∷ xs) zero p = rw (forth _ (p.1 zero x (omega arith) (omega arith))) (ap (λ ys. x ∷ ys) (filter_from test xs zero (point_none (λ y. not (test y)) x xs p)))
+filter_from test (x ∷ xs) zero p = rw (true-of-not _ (p.1 zero x (omega arith) (omega arith))) (ap (λ ys. x ∷ ys) (filter_from test xs zero (point_none (λ y. not (test y)) x xs p)))
 filter_from test (x ∷ xs) (suc i) p = rw (false-of-not _ (p.0 zero x (omega arith) (omega arith))) (filter_from test xs i (point_next (λ y. not (test y)) x xs i p))
 
 -- ---- the part between two places

@@ -6,7 +6,7 @@ use Rattle.tablet_model.specs.Cell.{Cell}
 use Rattle.tablet_model.specs.Stands.{AreApartIds, AreBelow, AreRising, AreThere}
 use Rattle.tablet_model.specs.Steps.{ids_of, takes_all}
 use Rattle.tablet_model.specs.Store.{File, cells_of, has_id, files_with, files_without}
-use Rattle.tablet_model.proofs.Bools.{both-of-and}
+use Rattle.tablet_model.proofs.Bools.{and-of-both, both-of-and}
 use Rattle.tablet_model.proofs.Merges.{all_append, all_left, all_right}
 use Rattle.tablet_model.proofs.Sums.{all_filter, all_weaker}
 use Rattle.stage_laws.proofs.Kept.{absurd_bool}
@@ -88,9 +88,6 @@ or_left a b h = grind arith
 
 or_right : (a b : Bool) → b ≡ true → (a || b) ≡ true
 or_right a b h = grind arith
-
-pub nor : (a b : Bool) → (a || b) ≡ false → (a ≡ false) × (b ≡ false)
-nor a b h = grind arith
 
 pub not_true : (b : Bool) → b ≡ false → not b ≡ true
 not_true b h = grind arith
@@ -187,10 +184,7 @@ apart_named ids others (f ∷ fs) a = ((λ h. not_true (has_id others f.id) (out
 takes_within : (ids : List ℕ) (files : List File) → AllByRecursion (λ f. has_id ids f.id ≡ true) files → takes_all ids files ≡ true
 unfolding takes_all
 takes_within ids [] h = refl
-takes_within ids (f ∷ fs) h = both (has_id ids f.id) (list_all (λ f. has_id ids f.id) fs) h.0 (takes_within ids fs h.1)
-  where
-    both : (a b : Bool) → a ≡ true → b ≡ true → (a && b) ≡ true
-    both a b h k = grind arith
+takes_within ids (f ∷ fs) h = and-of-both (has_id ids f.id) (list_all (λ f. has_id ids f.id) fs) h.0 (takes_within ids fs h.1)
 
 all_own : (files : List File) → AllByRecursion (λ f. has_id (ids_of files) f.id ≡ true) files
 unfolding has_id ids_of

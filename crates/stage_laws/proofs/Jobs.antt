@@ -19,7 +19,8 @@ use Rattle.tablet_model.proofs.Merges.{all_append, all_sorted}
 use Rattle.tablet_model.proofs.Orders.{above_exact}
 use Rattle.tablet_model.proofs.Risings.{all_kept}
 use Rattle.tablet_model.proofs.Sums.{all_filter, all_weaker}
-use Rattle.stage_laws.proofs.FileLists.{AllCells, all_cells, all_files, all_filtered, all_where, apart_named, below_more, cells_one_more, eqb_sym, named_next, none_unnamed, not_next, there_append, there_unnamed, true_not, unnamed_next}
+use Rattle.tablet_model.proofs.Bools.{false-of-not}
+use Rattle.stage_laws.proofs.FileLists.{AllCells, all_cells, all_files, all_filtered, all_where, apart_named, below_more, cells_one_more, eqb_sym, named_next, none_unnamed, not_next, there_append, there_unnamed, unnamed_next}
 use Rattle.stage_laws.proofs.Kept.{absurd_bool, listed_key}
 use Rattle.stage_laws.proofs.Parts.{LooksAtKeys, keys_stages, accepted_first, all_partial}
 use Rattle.stage_laws.proofs.Whole.{full}
@@ -233,12 +234,12 @@ unfolding without_job
 jobs_finished c law s j t found nums h = record {
   below = below_more s.next left f.cells (below_left s.next t.ids s.files nums);
   files_there = all_filtered (λ u. AreThere (left ++ f ∷ []) u.ids) other s.jobs
-      (all_both (λ u. AreThere s.files u.ids) (λ u. AreApartFrom u) (λ u. other u ≡ true → AreThere (left ++ f ∷ []) u.ids) (λ u k a o. there_append left f u.ids (there_unnamed t.ids s.files u.ids (apart_sym t.ids u.ids (a (true_not (eqb t.job u.job) o))) k)) s.jobs h.files_there apart);
+      (all_both (λ u. AreThere s.files u.ids) (λ u. AreApartFrom u) (λ u. other u ≡ true → AreThere (left ++ f ∷ []) u.ids) (λ u k a o. there_append left f u.ids (there_unnamed t.ids s.files u.ids (apart_sym t.ids u.ids (a (false-of-not (eqb t.job u.job) o))) k)) s.jobs h.files_there apart);
   own_numbers = own_fewer other s.jobs h.own_numbers;
   files_apart = all_filter (λ u. AllByRecursion (λ v. eqb u.job v.job ≡ false → AreApartIds u.ids v.ids) (filter other s.jobs)) other s.jobs
       (all_weaker (λ u. AllByRecursion (λ v. eqb u.job v.job ≡ false → AreApartIds u.ids v.ids) s.jobs) (λ u. AllByRecursion (λ v. eqb u.job v.job ≡ false → AreApartIds u.ids v.ids) (filter other s.jobs)) (λ u k. all_filter (λ v. eqb u.job v.job ≡ false → AreApartIds u.ids v.ids) other s.jobs k) s.jobs h.files_apart);
   others_newer = all_filtered IsNewerAfter other s.jobs
-      (all_both (λ u. AreThere s.files u.ids × AreApartFrom u) (λ u. u.full ≡ true → AreAllNewer c.plain (cells_of (files_without u.ids s.files)) (cells_of (files_with u.ids s.files))) (λ u. other u ≡ true → IsNewerAfter u) (λ u k l o e. newer u k.0 (k.1 (true_not (eqb t.job u.job) o)) (l e)) s.jobs
+      (all_both (λ u. AreThere s.files u.ids × AreApartFrom u) (λ u. u.full ≡ true → AreAllNewer c.plain (cells_of (files_without u.ids s.files)) (cells_of (files_with u.ids s.files))) (λ u. other u ≡ true → IsNewerAfter u) (λ u k l o e. newer u k.0 (k.1 (false-of-not (eqb t.job u.job) o)) (l e)) s.jobs
       (all_both (λ u. AreThere s.files u.ids) AreApartFrom (λ u. AreThere s.files u.ids × AreApartFrom u) (λ u a b. (a, b)) s.jobs h.files_there apart) h.others_newer);
 }
   where
