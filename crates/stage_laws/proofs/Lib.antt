@@ -2,6 +2,7 @@ pub mod Parts
 pub mod Folds
 pub mod Compactions
 pub mod Marked
+pub mod Restrictions
 pub mod Whole
 pub mod Partial
 pub mod Kept

@@ -25,10 +25,11 @@ use Rattle.tablet_model.proofs.Orders.{above_exact}
 use Rattle.tablet_model.proofs.Sums.{Ascends-sorted}
 use Rattle.stage_laws.proofs.FileLists.{takes_own}
 use Rattle.stage_laws.proofs.Jobs.{MayStart, jobs_finished, jobs_flushed, jobs_started, no_job, none_apart, none_missing}
-use Rattle.stage_laws.proofs.Parts.{made_all}
+use Rattle.stage_laws.proofs.Parts.{accepted_keys}
+use Rattle.stage_laws.proofs.Restrictions.{stages_commute}
 use Rattle.stage_laws.proofs.Standing.{Ascends-all, flushed_newer, le_refl, stands_applied, stands_flushed, stands_frozen}
 use Rattle.stage_laws.proofs.StandingJobs.{stands_finished}
-use Rattle.stage_laws.proofs.Whole.{families_columns, full, restrict_stages}
+use Rattle.stage_laws.proofs.Whole.{families_columns, full}
 
 -- the parts alone matter
 pub parts_same : (c : Rules) (s t : Store) (h : List RowChange) → s.count ≡ t.count → s.files ≡ t.files → s.frozen ≡ t.frozen → s.memory ≡ t.memory → StandsInParts c s h → StandsInParts c t h
@@ -160,10 +161,10 @@ empty_stands c law = record {
 -- families, before or after
 pub stores_answer : (c : Rules) (s : Store) (h : List RowChange) (range : Span) (families : Option (List (List ℕ))) → AreSound c → Stands c s h → scan_of (scan_stack c) range families (all_of s) ≡ answer (scan_stack c) range families h
 unfolding scan_of answer
-stores_answer c s h range families law k = ap (λ l. within range (c.scan_rest l)) (chosen (all_of s) (Ascends-all s) ∙ ap (in_families families) k.in_parts.same ∙ sym (chosen (history_entries h) (history_ascends h)))
+stores_answer c s h range families law k = ap (λ l. within range (c.scan_rest l)) (chosen (all_of s) ∙ ap (in_families families) k.in_parts.same ∙ sym (chosen (history_entries h)))
   where
-    chosen : (list : List Cell) → Ascends above list → stages c.base (in_families families (live list)) ≡ in_families families (stages c.base (live list))
-    chosen list up = sym (restrict_stages (is_in families) (families_columns families) c.base (made_all c.base law.accepted) (live list) (Ascends-live list up))
+    chosen : (list : List Cell) → stages c.base (in_families families (live list)) ≡ in_families families (stages c.base (live list))
+    chosen list = sym (stages_commute (is_in families) (families_columns families) c.base (accepted_keys c.base law.accepted) (live list))
 
 pub steps_are_unseen : (c : Rules) (s : Store) (h : List RowChange) (e : Event) (range : Span) (families : Option (List (List ℕ))) → AreSound c → Stands c s h → log_after c s h e ≡ h → scan_of (scan_stack c) range families (all_of (store_after c s e)) ≡ scan_of (scan_stack c) range families (all_of s)
 steps_are_unseen c s h e range families law k same =

@@ -16,6 +16,7 @@ use Rattle.tablet_model.proofs.Sums.{all_filter, all_weaker, Ascends-filter}
 use Rattle.tablet_model.proofs.Columns.{of_column, equal_by_columns, column-sum, column-live, column-mark, filter_within}
 use Rattle.tablet_model.proofs.OneColumn.{columns_tie, InColumn, of_column_in, Ascends-live, Ascends-sum}
 use Rattle.stage_laws.proofs.Parts.{column-stages, Ascends-stages, made_all, stages_none, accepted_keys, accepted_first, keys_kept}
+use Rattle.stage_laws.proofs.Restrictions.{live_commutes}
 use Rattle.stage_laws.proofs.Marked.{AreSplit, minor_in, full_in, added_in, Beside, beside_newer}
 
 -- the answer of a sum, column by column
@@ -82,51 +83,9 @@ added plain cols ss u w v acc uu uw ru rw' rv mu mw mv nu nw same = equal_answer
     in_column : (c : Cell) (l : List Cell) → stages ss (live (of_column c l)) ≡ of_column c (stages ss (live l))
     in_column c l = sym (column-stages ss (accepted_keys ss acc) c (live l) ∙ ap (stages ss) (column-live c l))
 
--- a restriction to columns, as to families, before or after
-restrict_sum_in : (fam : Cell → Bool) → IsOfColumns fam → (f : List Cell → List Cell) → f [] ≡ [] → (c : Cell) (list : List Cell) → InColumn c list → InColumn c (f list) → filter fam (f list) ≡ f (filter fam list)
-restrict_sum_in fam cols f none c list i j = go (fam c) refl
-  where
-    at : (b : Bool) → fam c ≡ b → (l : List Cell) → InColumn c l → filter fam l ≡ cond b l []
-    at b h l k = whole fam b l (all_weaker (λ e. same_column c e ≡ true) (λ e. fam e ≡ b) (λ e s. cols c e s ∙ h) l k)
-      where
-        whole : (p : Cell → Bool) (b : Bool) (l : List Cell) → AllByRecursion (λ e. p e ≡ b) l → filter p l ≡ cond b l []
-        whole p true [] k = refl
-        whole p false [] k = refl
-        whole p true (e ∷ es) k = rw k.0 (ap (λ z. e ∷ z) (whole p true es k.1))
-        whole p false (e ∷ es) k = rw k.0 (whole p false es k.1)
-
-    go : (b : Bool) → fam c ≡ b → filter fam (f list) ≡ f (filter fam list)
-    go true h = at true h (f list) j ∙ ap f (sym (at true h list i))
-    go false h = at false h (f list) j ∙ sym none ∙ ap f (sym (at false h list i))
-
-filter_swap : (p q : Cell → Bool) (list : List Cell) → filter p (filter q list) ≡ filter q (filter p list)
-filter_swap p q list = filter_within p q q (λ e h. refl) list
-
--- a map of lists that works on each column by itself
-abbrev IsLocal : (List Cell → List Cell) → Type 0
-IsLocal f = (c : Cell) (list : List Cell) → of_column c (f list) ≡ f (of_column c list)
-
-restrict : (fam : Cell → Bool) → IsOfColumns fam → (f : List Cell → List Cell) → f [] ≡ [] → IsLocal f → (list : List Cell) → Ascends above (f list) → Ascends above (f (filter fam list)) → filter fam (f list) ≡ f (filter fam list)
-restrict fam cols f none local list up down = equal_by_columns (filter fam (f list)) (f (filter fam list)) (Ascends-filter above above_exact fam (f list) up) down (λ c.
-    filter_swap (same_column c) fam (f list)
-    ∙ ap (filter fam) (local c list)
-    ∙ restrict_sum_in fam cols f none c (of_column c list) (of_column_in c list) (subst (InColumn c) (local c list) (of_column_in c (f list)))
-    ∙ ap f (filter_swap fam (same_column c) list)
-    ∙ sym (local c (filter fam list)))
-
-live_none : live [] ≡ []
-unfolding live
-live_none = refl
-
--- `Live` of the families is the families of `Live`
+-- what is live of the families is the families of what is live, as of any list
 pub restrict_live : (fam : Cell → Bool) → IsOfColumns fam → (list : List Cell) → Ascends above list → filter fam (live list) ≡ live (filter fam list)
-restrict_live fam cols list up = restrict fam cols live live_none column-live list (Ascends-live list up) (Ascends-live (filter fam list) (Ascends-filter above above_exact fam list up))
-
-pub restrict_stages : (fam : Cell → Bool) → IsOfColumns fam → (ss : List Stage) → AllByRecursion IsWellMade ss → (list : List Cell) → Ascends above list → filter fam (stages ss list) ≡ stages ss (filter fam list)
-restrict_stages fam cols ss w list up = restrict fam cols (stages ss) (stages_none ss) (column-stages ss (keys_kept ss w)) list (Ascends-stages ss w list up) (Ascends-stages ss w (filter fam list) (Ascends-filter above above_exact fam list up))
-
-pub restrict_answer : (fam : Cell → Bool) → IsOfColumns fam → (ss : List Stage) → AllByRecursion IsWellMade ss → (list : List Cell) → Ascends above list → filter fam (stages ss (live list)) ≡ stages ss (live (filter fam list))
-restrict_answer fam cols ss w list up = restrict_stages fam cols ss w (live list) (Ascends-live list up) ∙ ap (stages ss) (restrict_live fam cols list up)
+restrict_live fam cols list up = live_commutes fam cols list
 
 -- families are such columns
 pub families_columns : (families : Option (List (List ℕ))) → IsOfColumns (is_in families)

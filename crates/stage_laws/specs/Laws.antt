@@ -57,8 +57,7 @@ NewerEntriesKeepAnswersEqual = (plain : Cell → Bool) → IsOfColumns plain →
 
 -- a restriction to columns, as to families, may come before or after
 abbrev pub RestrictionCommutes : Type 0
-RestrictionCommutes = (fam : Cell → Bool) → IsOfColumns fam → (ss : List Stage) → AllByRecursion IsWellMade ss → (list : List Cell)
-    → Ascends above list
+RestrictionCommutes = (fam : Cell → Bool) → IsOfColumns fam → (ss : List Stage) → AllByRecursion KeepsKeys ss → (list : List Cell)
     → filter fam (stages ss (live list)) ≡ stages ss (live (filter fam list))
 
 -- families are such columns
@@ -67,7 +66,7 @@ FamiliesAreColumns = (families : Option (List (List ℕ))) → IsOfColumns (is_i
 
 -- so a scan may choose its families before what is deleted is left out
 abbrev pub FamiliesMayComeFirst : Type 0
-FamiliesMayComeFirst = (families : Option (List (List ℕ))) (list : List Cell) → Ascends above list → in_families families (live list) ≡ live (in_families families list)
+FamiliesMayComeFirst = (families : Option (List (List ℕ))) (list : List Cell) → in_families families (live list) ≡ live (in_families families list)
 
 -- what stages make of a list in order is in order
 abbrev pub StagesAscend : Type 0
