@@ -23,9 +23,10 @@ use Rattle.iter_config.specs.declared.iter_spec.Deletes.TheVariants as deletes
 use Rattle.iter_config.specs.declared.iter_spec.IterSpec.{IterSpec}
 use Rattle.iter_config.specs.declared.iter_spec.Kind.TheVariants.{Combine, Versions}
 use Rattle.script_text.specs.Answers.{entry_line, found_text}
-use Rattle.script_text.specs.Grammar.{delete_of, line_by_word, mutation_of, put_of, reading_of, scan_of as scan_line, update_of}
+use Rattle.script_text.specs.Grammar.{delete_of, line_by_word, mutation_of, put_of, reading_of, scan_of as scan_line, timed_put_of, update_of}
 use Rattle.script_text.specs.Lines.{lines_of}
 use Rattle.script_text.specs.Scans.{range_in_brackets, families_of, optional_row, range_of, rows_between, short_text}
+use Rattle.script_text.specs.Times.{time_of}
 use Rattle.tablet_replay.specs.Replay.{after_line, line_answer, log_behind, replayed_none, script_answers}
 
 -- a configuration without timed families
@@ -76,3 +77,12 @@ counter = record {
 refused_counts : script_answers (replayed_none (plain (counter ∷ []))) (lines_of (codes "m r1 +n:x:=-1\nm r1 -n:x:\n")) ≡ codes "no value\nno delete\n"
 unfolding plain digits put_of delete_of update_of mutation_of reading_of line_by_word line_answer after_line answer_to_step store_after log_behind refuse step step_answer empty_store rules_of stages ingest out_of_bounds first_too_long too_long first_twice first_where is_refused_delete one_refuses is_mistimed is_unread is_read reduction_of column_listed counter
 refused_counts = refl
+
+-- a timed family: its puts bring their times, whatever the order in which they come in, and no other change does
+of_clients : Settings
+of_clients = record { iterators = []; timed = codes "t" ∷ [] }
+
+own_times : script_answers (replayed_none of_clients) (lines_of (codes "m r1 ^5+t:x:=b\nm r1 +t:x:=a\nm r1 -t:x:\nm r1 ^1+a:x:=1\nm r1 ^7+t:x:=c\nscan\n"))
+    ≡ codes "m 1\nno time\nno delete\nno time\nm 2\nat 2\nr1 t:x: @7 =c\nr1 t:x: @5 =b\nend 2\n"
+unfolding of_clients digits put_of timed_put_of time_of delete_of update_of mutation_of scan_line reading_of line_by_word entry_line found_text line_answer after_line answer_to_step store_after log_behind refuse step step_answer empty_store rules_of stages ingest out_of_bounds first_too_long too_long first_twice first_where is_refused_delete one_refuses is_mistimed is_unread is_read answer scan_of history_entries sorted put above cell_cmp key_cmp column_cmp time_cmp live is_live hides marker_beside same_column
+own_times = refl
