@@ -1,5 +1,5 @@
 -- The two laws of images: each is read as its list, and what is read is the image of what was read.
-use Rattle.std.proofs.Common.{◌≡◌, ℕ, ◌+◌, ◌<◌, cond, eqb, List, [], ◌++◌, length, None, Result, Ok, Err, sym, ap, subst, ◌∙◌, append_assoc, length-append, arith}
+use Rattle.std.proofs.Common.{◌≡◌, ℕ, ◌+◌, ◌<◌, cond, eqb, List, [], ◌++◌, length, None, Result, Ok, Err, refl, sym, ap, subst, ◌∙◌, append_assoc, length-append, arith}
 use Rattle.byteorder.specs.Endian.{big_bytes}
 use Rattle.std.proofs.lemmas.Bool.{eqb-true}
 use Rattle.std.proofs.lemmas.List.{append-nil, nil_from_length}
@@ -7,19 +7,23 @@ use Rattle.tablet_model.specs.Cell.{Cell}
 use Rattle.byte_fields.specs.Fields.{◌>>=◌, Unread}
 use Rattle.byte_fields.proofs.Fields.{bind_ok, then_ok, ok_is, IsBytes, spot, Takes, Takes-then}
 use Rattle.iter_contract.proofs.Following.{ascends_follows, follows_ascends}
-use Rattle.sorted_file.specs.Image.{magic, version, end_mark, end_magic, entries_bytes, block_places, index_bytes, image_of}
+use Rattle.sorted_file.specs.Contents.{FileContents}
+use Rattle.sorted_file.specs.Image.{magic, version_bytes, end_magic, entries_bytes, block_places, index_bytes, image_of}
+use Rattle.sorted_file.specs.Versions.{end_mark}
 use Rattle.sorted_file.specs.Lists.{IsFileList}
-use Rattle.sorted_file.specs.Reading.{fault, expected_at, head_at, entries_at, index_at, footer_at, image_reading}
+use Rattle.sorted_file.specs.Reading.{fault, expected_at, version_at, head_at, entries_at, index_at, footer_at, image_reading}
 use Rattle.sorted_file.specs.declared.fault.Fault.{Fault}
-use Rattle.sorted_file.specs.declared.fault.ImageCause.TheVariants.{Magic, Version, Tail}
-use Rattle.sorted_file.proofs.Parts.{expected_again, expected_take}
+use Rattle.sorted_file.specs.declared.fault.ImageCause.TheVariants.{Magic, Tail}
+use Rattle.sorted_file.specs.declared.version.Version.{Version}
+use Rattle.sorted_file.proofs.Parts.{expected_again, expected_take, version_again, version_take}
+use Rattle.sorted_file.proofs.SharedParts.{near_none}
 use Rattle.sorted_file.proofs.Images.{length_list, entries_again, entries_take, index_again, index_take}
 
 -- ---- what stands behind the entries
 
 -- behind the end mark
-abbrev pub rest_bytes : List Cell → List ℕ
-rest_bytes list = index_bytes (block_places list) ++ (big_bytes 8 (length list) ++ end_magic)
+abbrev pub rest_bytes : Version → List Cell → List ℕ
+rest_bytes v list = index_bytes (block_places v list) ++ (big_bytes 8 (length list) ++ end_magic)
 
 footer_again : (places : List ℕ) (count at : ℕ) → (end : ℕ) × (footer_at places count (spot at (index_bytes places ++ (big_bytes 8 count ++ end_magic))) ≡ Ok (spot end []))
 unfolding footer_at
@@ -53,62 +57,76 @@ footer_take places count u v fits e =
 grouped : (m v e k i c z : List ℕ) → (m ++ v) ++ e ++ (k ++ i ++ c ++ z) ≡ m ++ (v ++ (e ++ (k ++ (i ++ (c ++ z)))))
 grouped m v e k i c z = simp append_assoc
 
-pub image_is : (list : List Cell) → image_of list ≡ magic ++ (version ++ (entries_bytes list ++ (end_mark ++ rest_bytes list)))
-unfolding image_of
-image_is list = grouped magic version (entries_bytes list) end_mark (index_bytes (block_places list)) (big_bytes 8 (length list)) end_magic
+-- what stands behind the version
+abbrev body_bytes : Version → List Cell → List ℕ
+body_bytes v list = entries_bytes v list ++ (end_mark v ++ rest_bytes v list)
 
-few : (list : List Cell) → length list < length (image_of list)
-few list =
-    let all : List ℕ = entries_bytes list ++ (end_mark ++ rest_bytes list) in
-    omega (arith, ap length (image_is list), length-append magic (version ++ all), length-append version all, length-append (entries_bytes list) (end_mark ++ rest_bytes list), length_list list)
+pub image_is : (v : Version) (list : List Cell) → image_of v list ≡ magic ++ (version_bytes v ++ body_bytes v list)
+unfolding image_of
+image_is v list = grouped magic (version_bytes v) (entries_bytes v list) (end_mark v) (index_bytes (block_places v list)) (big_bytes 8 (length list)) end_magic
+
+few : (v : Version) (list : List Cell) → length list < length (image_of v list)
+few v list =
+    let all : List ℕ = body_bytes v list in
+    omega (arith, ap length (image_is v list), length-append magic (version_bytes v ++ all), length-append (version_bytes v) all, length-append (entries_bytes v list) (end_mark v ++ rest_bytes v list), length_list v 0 None list)
+
+-- what is read behind the entries
+abbrev after_entries : Version → List Cell × Unread → Result FileContents Fault
+after_entries v entries = footer_at (block_places v entries.0) (length entries.0) entries.1 >>= λ end. Ok (record { version = v; cells = entries.0 })
 
 -- what is read behind the magic and the version
-abbrev body_at : List ℕ → Unread → Result (List Cell) Fault
-body_at bytes u = entries_at (length bytes) None u >>= λ entries. footer_at (block_places entries.0) (length entries.0) entries.1 >>= λ end. Ok entries.0
+abbrev pub body_at : List ℕ → Version × Unread → Result FileContents Fault
+body_at bytes start = entries_at start.0 (length bytes) 0 None start.1 >>= after_entries start.0
 
-head_again : (at : ℕ) (rest : List ℕ) → head_at (spot at (magic ++ (version ++ rest))) ≡ Ok (spot (at + 4 + 1) rest)
+head_again : (v : Version) (at : ℕ) (rest : List ℕ) → head_at (spot at (magic ++ (version_bytes v ++ rest))) ≡ Ok (v, spot (at + 4 + 1) rest)
 unfolding head_at
-head_again at rest = ap (λ (r : Result Unread Fault). r >>= expected_at Version version) (expected_again Magic magic at (version ++ rest)) ∙ expected_again Version version (at + 4) rest
+head_again v at rest = ap (λ (r : Result Unread Fault). r >>= version_at) (expected_again Magic magic at (version_bytes v ++ rest)) ∙ version_again v (at + 4) rest
 
 -- an image is read as its list
-pub image_again : (list : List Cell) → IsFileList list → image_reading (image_of list) ≡ Ok list
+pub image_again : (v : Version) (list : List Cell) → IsFileList list → image_reading (image_of v list) ≡ Ok (record { version = v; cells = list })
 unfolding image_reading
-image_again list is =
-    let bytes : List ℕ = image_of list in
-    let all : List ℕ = entries_bytes list ++ (end_mark ++ rest_bytes list) in
-    let footer = footer_again (block_places list) (length list) (5 + (length (entries_bytes list) + 2)) in
-    ap (λ (b : List ℕ). head_at (spot 0 b) >>= body_at bytes) (image_is list)
-    ∙ ap (λ (r : Result Unread Fault). r >>= body_at bytes) (head_again 0 all)
-    ∙ ap (λ (r : Result (List Cell × Unread) Fault). r >>= λ entries. footer_at (block_places entries.0) (length entries.0) entries.1 >>= λ end. Ok entries.0) (entries_again (length bytes) None list 5 (rest_bytes list) (few list) (ascends_follows list is.ascends) is.entries)
-    ∙ ap (λ (r : Result Unread Fault). r >>= λ end. Ok list) footer.1
+image_again v list is =
+    let bytes : List ℕ = image_of v list in
+    let footer = footer_again (block_places v list) (length list) (5 + (length (entries_bytes v list) + length (end_mark v))) in
+    ap (λ (b : List ℕ). head_at (spot 0 b) >>= body_at bytes) (image_is v list)
+    ∙ ap (λ (r : Result (Version × Unread) Fault). r >>= body_at bytes) (head_again v 0 (body_bytes v list))
+    ∙ ap (λ (r : Result (List Cell × Unread) Fault). r >>= after_entries v) (entries_again v (length bytes) 0 None list 5 (rest_bytes v list) (few v list) (ascends_follows list is.ascends) is.entries)
+    ∙ ap (λ (r : Result Unread Fault). r >>= λ end. Ok (record { version = v; cells = list })) footer.1
 
-pub head_take : (u v : Unread) → IsBytes u.rest → head_at u ≡ Ok v → Takes u (magic ++ version) v
+pub head_take : (u : Unread) (x : Version × Unread) → IsBytes u.rest → head_at u ≡ Ok x → Takes u (magic ++ version_bytes x.0) x.1
 unfolding head_at
-head_take u v fits e =
-    let m = bind_ok (expected_at Magic magic u) (expected_at Version version) v e in
+head_take u x fits e =
+    let m = bind_ok (expected_at Magic magic u) version_at x e in
     let m' = expected_take Magic magic u m.0 fits m.1 in
-    Takes-then u magic m.0 version v m' (expected_take Version version m.0 v m'.rest_fits m.2)
+    Takes-then u magic m.0 (version_bytes x.0) x.1 m' (version_take m.0 x m'.rest_fits m.2)
 
--- the list is what was read
-read_list : (entries : List Cell × Unread) (list : List Cell) → IsBytes entries.1.rest → (footer_at (block_places entries.0) (length entries.0) entries.1 >>= λ end. Ok entries.0) ≡ Ok list
-    → (entries.1.rest ≡ rest_bytes entries.0) × (entries.0 ≡ list)
-read_list entries list fits e =
-    let f = bind_ok (footer_at (block_places entries.0) (length entries.0) entries.1) (λ end. Ok entries.0) list e in
-    (footer_take (block_places entries.0) (length entries.0) entries.1 f.0 fits f.1, ok_is entries.0 list f.2)
+-- the contents are what was read
+read_list : (v : Version) (entries : List Cell × Unread) (file : FileContents) → IsBytes entries.1.rest → after_entries v entries ≡ Ok file
+    → (entries.1.rest ≡ rest_bytes v entries.0) × (record { version = v; cells = entries.0 } ≡ file)
+read_list v entries file fits e =
+    let f = bind_ok (footer_at (block_places v entries.0) (length entries.0) entries.1) (λ end. Ok (record { version = v; cells = entries.0 })) file e in
+    (footer_take (block_places v entries.0) (length entries.0) entries.1 f.0 fits f.1, ok_is (record { version = v; cells = entries.0 }) file f.2)
 
-body_take : (bytes : List ℕ) (u : Unread) (list : List Cell) → IsBytes u.rest → body_at bytes u ≡ Ok list → (u.rest ≡ entries_bytes list ++ (end_mark ++ rest_bytes list)) × IsFileList list
-body_take bytes u list fits e =
-    let a = bind_ok (entries_at (length bytes) None u) (λ entries. footer_at (block_places entries.0) (length entries.0) entries.1 >>= λ end. Ok entries.0) list e in
-    let a' = entries_take (length bytes) None u a.0 fits a.1 in
-    let f = read_list a.0 list a'.taken.rest_fits a.2 in
-    subst (λ (l : List Cell). (u.rest ≡ entries_bytes l ++ (end_mark ++ rest_bytes l)) × IsFileList l) f.1
-    (a'.taken.parts ∙ append_assoc (entries_bytes a.0.0) end_mark a.0.1.rest ∙ ap (λ (r : List ℕ). entries_bytes a.0.0 ++ (end_mark ++ r)) f.0, record { ascends = follows_ascends a.0.0 a'.follow; entries = a'.entries })
+-- the bytes behind a version are those of an image of that version
+abbrev IsBody : Version → List ℕ → FileContents → Type 0
+IsBody v rest file = (v ≡ file.version) × (rest ≡ body_bytes file.version file.cells) × IsFileList file.cells
+
+body_take : (bytes : List ℕ) (start : Version × Unread) (file : FileContents) → IsBytes start.1.rest → body_at bytes start ≡ Ok file → IsBody start.0 start.1.rest file
+body_take bytes start file fits e =
+    let v = start.0 in
+    let a = bind_ok (entries_at v (length bytes) 0 None start.1) (after_entries v) file e in
+    let a' = entries_take v (length bytes) 0 None start.1 a.0 fits near_none a.1 in
+    let f = read_list v a.0 file a'.taken.rest_fits a.2 in
+    subst (IsBody v start.1.rest) f.1
+    (refl, a'.taken.parts ∙ append_assoc (entries_bytes v a.0.0) (end_mark v) a.0.1.rest ∙ ap (λ (r : List ℕ). entries_bytes v a.0.0 ++ (end_mark v ++ r)) f.0, record { ascends = follows_ascends a.0.0 a'.follow; entries = a'.entries })
 
 -- what is read is the image of what was read
-pub image_take : (bytes : List ℕ) (list : List Cell) → IsBytes bytes → image_reading bytes ≡ Ok list → (image_of list ≡ bytes) × IsFileList list
+pub image_take : (bytes : List ℕ) (file : FileContents) → IsBytes bytes → image_reading bytes ≡ Ok file → (image_of file.version file.cells ≡ bytes) × IsFileList file.cells
 unfolding image_reading
-image_take bytes list fits e =
-    let v = bind_ok (head_at (spot 0 bytes)) (body_at bytes) list e in
-    let v' = head_take (spot 0 bytes) v.0 fits v.1 in
-    let b = body_take bytes v.0 list v'.rest_fits v.2 in
-    (image_is list ∙ sym (v'.parts ∙ ap (λ (r : List ℕ). (magic ++ version) ++ r) b.0), b.1)
+image_take bytes file fits e =
+    let start = bind_ok (head_at (spot 0 bytes)) (body_at bytes) file e in
+    let start' = head_take (spot 0 bytes) start.0 fits start.1 in
+    let b = body_take bytes start.0 file start'.rest_fits start.2 in
+    let parts : bytes ≡ (magic ++ version_bytes file.version) ++ body_bytes file.version file.cells =
+    start'.parts ∙ ap (λ (v : Version). (magic ++ version_bytes v) ++ start.0.1.rest) b.0 ∙ ap (λ (r : List ℕ). (magic ++ version_bytes file.version) ++ r) b.1 in
+    (image_is file.version file.cells ∙ sym parts, b.2)

@@ -1,5 +1,6 @@
 pub mod Examples
 pub mod Parts
+pub mod SharedParts
 pub mod Entries
 pub mod Orders
 pub mod Images

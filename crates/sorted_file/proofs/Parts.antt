@@ -1,16 +1,22 @@
 -- A part of an entry that is written is read again, and one that is read was written so.
-use Rattle.std.proofs.Common.{◌≡◌, ℕ, ◌+◌, ◌^◌, ◌≤◌, Bool, true, false, ◌||◌, cond, eqb, ltb, List, [], ◌∷◌, ◌++◌, length, get_or, Ok, Err, refl, ap, subst, arith}
+use Rattle.std.proofs.Common.{◌≡◌, ℕ, ◌+◌, ◌^◌, ◌≤◌, Bool, true, false, ◌||◌, cond, eqb, ltb, List, [], ◌∷◌, ◌++◌, length, get_or, Result, Ok, Err, refl, sym, ap, subst, ◌∙◌, arith}
 use Rattle.std.specs.Str.{bytes_eq}
-use Rattle.std.proofs.lemmas.Bool.{ltb-false, le-ltb, eqb-true}
+use Rattle.std.proofs.lemmas.Bool.{ltb-false, le-ltb, lt-ltb, eqb-true}
 use Rattle.std.proofs.lemmas.Bool.Decides.{nat_tests}
 use Rattle.std.proofs.lemmas.Slice.Eq.{bytes_eq-Decides}
-use Rattle.byte_fields.specs.Fields.{Unread, bytes_at}
-use Rattle.byte_fields.proofs.Fields.{bind_ok, then_ok, ok_is, told_ok, IsBytes, spot, Takes, Again, bytes_again, bytes_take, wide2, wide4, sized_again, sized_take}
-use Rattle.sorted_file.specs.Image.{part_bytes, flag_bytes, value_bytes}
+use Rattle.byteorder.specs.Endian.{big_bytes}
+use Rattle.byte_fields.specs.Fields.{◌>>=◌, Unread, bytes_at, number_at}
+use Rattle.byte_fields.proofs.Fields.{bind_ok, then_ok, ok_is, told_ok, IsBytes, spot, Takes, Again, bytes_again, bytes_take, wide2, wide4, number_again, number_take, sized_again, sized_take}
+use Rattle.sorted_file.specs.Image.{version_bytes, part_bytes, flag_bytes, value_bytes}
+use Rattle.sorted_file.specs.Versions.{end_mark}
 use Rattle.sorted_file.specs.Lists.{longest_value}
-use Rattle.sorted_file.specs.Reading.{fault, uncut, expected_at, row_at, part_at, flag_at, value_at}
+use Rattle.sorted_file.specs.Reading.{fault, uncut, expected_at, version_at, end_at, row_at, part_at, flag_at, value_at}
+use Rattle.sorted_file.specs.declared.fault.Fault.{Fault}
 use Rattle.sorted_file.specs.declared.fault.ImageCause.{ImageCause}
 use Rattle.sorted_file.specs.declared.fault.ImageCause.TheVariants.{Length, Bound}
+use Rattle.sorted_file.specs.declared.fault.ImageCause.TheVariants as causes
+use Rattle.sorted_file.specs.declared.version.Version.{Version}
+use Rattle.sorted_file.specs.declared.version.Version.TheVariants.{One, Two}
 
 -- ---- a field that is known
 
@@ -54,29 +60,80 @@ part_take u x fits e =
     let t = sized_take (fault Length) (fault Bound) 2 (2 ^ 16) wide2 (ltb 1024) u x fits e in
     (t.0, ltb-false _ _ t.1)
 
-pub flag_again : (deleted : Bool) → Again flag_at (flag_bytes deleted) deleted
-unfolding flag_at
-flag_again true at rest = rw (bytes_again (1 ∷ []) 1 refl at rest) refl
-flag_again false at rest = rw (bytes_again (0 ∷ []) 1 refl at rest) refl
-
 one_byte : (bytes : List ℕ) (n : ℕ) → length bytes ≡ 1 → get_or bytes 0 0 ≡ n → bytes ≡ n ∷ []
 one_byte [] n len e = absurd (omega arith)
 one_byte (b ∷ []) n len e = ap (λ (k : ℕ). k ∷ []) e
 one_byte (b ∷ c ∷ bytes) n len e = absurd (omega arith)
+
+-- a field of one byte
+pub byte_take : (u : Unread) (x : List ℕ × Unread) → IsBytes u.rest → uncut (bytes_at 1 u) ≡ Ok x → Takes u (get_or x.0 0 0 ∷ []) x.1
+byte_take u x fits e =
+    let t = bytes_take 1 u x fits (told_ok (fault Length) (bytes_at 1 u) x e) in
+    subst (λ (bs : List ℕ). Takes u bs x.1) (one_byte x.0 (get_or x.0 0 0) t.1 refl) t.0
+
+-- a field of one byte that says one of two things
+by_byte : {A : Type 0} (u v : Unread) (text : A → List ℕ) (n a b : ℕ) (one two : A) (error : Fault) (x : A × Unread) → Takes u (n ∷ []) v → text one ≡ a ∷ [] → text two ≡ b ∷ []
+    → cond (eqb n a) (Ok (one, v)) (cond (eqb n b) (Ok (two, v)) (Err error)) ≡ Ok x → Takes u (text x.0) x.1
+by_byte {A} u v text n a b one two error x t is_one is_two r = go (eqb n a) (eqb n b) refl refl r
+  where
+    go : (p q : Bool) → eqb n a ≡ p → eqb n b ≡ q → cond p (Ok (one, v)) (cond q (Ok (two, v)) (Err error)) ≡ Ok x → Takes u (text x.0) x.1
+    go true q is0 is1 r = subst (λ (y : A × Unread). Takes u (text y.0) y.1) (ok_is (one, v) x r) (subst (λ (bs : List ℕ). Takes u bs v) (ap (λ (k : ℕ). k ∷ []) (eqb-true _ _ is0) ∙ sym is_one) t)
+    go false true is0 is1 r = subst (λ (y : A × Unread). Takes u (text y.0) y.1) (ok_is (two, v) x r) (subst (λ (bs : List ℕ). Takes u bs v) (ap (λ (k : ℕ). k ∷ []) (eqb-true _ _ is1) ∙ sym is_two) t)
+    go false false is0 is1 r = absurd cc
+
+pub flag_again : (deleted : Bool) → Again flag_at (flag_bytes deleted) deleted
+unfolding flag_at
+flag_again true at rest = rw (bytes_again (1 ∷ []) 1 refl at rest) refl
+flag_again false at rest = rw (bytes_again (0 ∷ []) 1 refl at rest) refl
 
 pub flag_take : (u : Unread) (x : Bool × Unread) → IsBytes u.rest → flag_at u ≡ Ok x → Takes u (flag_bytes x.0) x.1
 unfolding flag_at
 flag_take u x fits e =
     let flag_of = λ (flag : List ℕ × Unread). cond (eqb (get_or flag.0 0 0) 0) (Ok (false, flag.1)) (cond (eqb (get_or flag.0 0 0) 1) (Ok (true, flag.1)) (Err (fault Bound u.at))) in
     let b = bind_ok (uncut (bytes_at 1 u)) flag_of x e in
-    let t = bytes_take 1 u b.0 fits (told_ok (fault Length) (bytes_at 1 u) b.0 b.1) in
-    by_byte b.0.0 b.0.1 t.0 t.1 (eqb (get_or b.0.0 0 0) 0) (eqb (get_or b.0.0 0 0) 1) refl refl b.2
-  where
-    by_byte : (bytes : List ℕ) (v : Unread) → Takes u bytes v → length bytes ≡ 1 → (p q : Bool) → eqb (get_or bytes 0 0) 0 ≡ p → eqb (get_or bytes 0 0) 1 ≡ q
-        → cond p (Ok (false, v)) (cond q (Ok (true, v)) (Err (fault Bound u.at))) ≡ Ok x → Takes u (flag_bytes x.0) x.1
-    by_byte bytes v t len true q is0 is1 r = subst (λ (y : Bool × Unread). Takes u (flag_bytes y.0) y.1) (ok_is (false, v) x r) (subst (λ (bs : List ℕ). Takes u bs v) (one_byte bytes 0 len (eqb-true _ _ is0)) t)
-    by_byte bytes v t len false true is0 is1 r = subst (λ (y : Bool × Unread). Takes u (flag_bytes y.0) y.1) (ok_is (true, v) x r) (subst (λ (bs : List ℕ). Takes u bs v) (one_byte bytes 1 len (eqb-true _ _ is1)) t)
-    by_byte bytes v t len false false is0 is1 r = absurd cc
+    by_byte u b.0.1 flag_bytes (get_or b.0.0 0 0) 0 1 false true (fault Bound u.at) x (byte_take u b.0 fits b.1) refl refl b.2
+
+-- ---- versions and end marks
+
+pub version_again : (v : Version) → Again version_at (version_bytes v) v
+unfolding version_at
+version_again One at rest = rw (bytes_again (1 ∷ []) 1 refl at rest) refl
+version_again Two at rest = rw (bytes_again (2 ∷ []) 1 refl at rest) refl
+
+pub version_take : (u : Unread) (x : Version × Unread) → IsBytes u.rest → version_at u ≡ Ok x → Takes u (version_bytes x.0) x.1
+unfolding version_at
+version_take u x fits e =
+    let version_of = λ (number : List ℕ × Unread). cond (eqb (get_or number.0 0 0) 1) (Ok (One, number.1)) (cond (eqb (get_or number.0 0 0) 2) (Ok (Two, number.1)) (Err (fault causes.Version u.at))) in
+    let b = bind_ok (uncut (bytes_at 1 u)) version_of x e in
+    by_byte u b.0.1 version_bytes (get_or b.0.0 0 0) 1 2 One Two (fault causes.Version u.at) x (byte_take u b.0 fits b.1) refl refl b.2
+
+pub end_again : (v : Version) → Again (end_at v) (end_mark v) true
+unfolding end_at
+end_again One at rest = rw (number_again 2 (2 ^ 16) wide2 0 (omega arith) at rest) refl
+end_again Two at rest = rw (bytes_again (255 ∷ []) 1 refl at rest) refl
+
+is_true : (b : Bool) (v w : Unread) → ◌≡◌ {A = Result (Bool × Unread) Fault} (Ok (b, v)) (Ok (true, w)) → (b ≡ true) × (v ≡ w)
+is_true b v w e =
+    let same = ok_is (b, v) (true, w) e in
+    (ap (λ (x : Bool × Unread). x.0) same, ap (λ (x : Bool × Unread). x.1) same)
+
+pub end_take : (v : Version) (u w : Unread) → IsBytes u.rest → end_at v u ≡ Ok (true, w) → Takes u (end_mark v) w
+unfolding end_at
+end_take One u w fits e =
+    let b = bind_ok (uncut (number_at 2 u)) (λ row. Ok (eqb row.0 0, row.1)) (true, w) e in
+    let t = number_take 2 (2 ^ 16) wide2 u b.0 fits (told_ok (fault Length) (number_at 2 u) b.0 b.1) in
+    let is = is_true (eqb b.0.0 0) b.0.1 w b.2 in
+    subst (λ (k : ℕ). Takes u (big_bytes 2 k) w) (eqb-true _ _ is.0) (subst (Takes u (big_bytes 2 b.0.0)) is.1 t.0)
+end_take Two u w fits e =
+    let b = bind_ok (uncut (bytes_at 1 u)) (λ same. Ok (eqb (get_or same.0 0 0) 255, same.1)) (true, w) e in
+    let is = is_true (eqb (get_or b.0.0 0 0) 255) b.0.1 w b.2 in
+    subst (λ (k : ℕ). Takes u (k ∷ []) w) (eqb-true _ _ is.0) (subst (Takes u (get_or b.0.0 0 0 ∷ [])) is.1 (byte_take u b.0 fits b.1))
+
+-- no field is left
+pub no_end : (v : Version) (u : Unread) → length u.rest ≤ 0 → end_at v u ≡ Err (fault Length u.at)
+unfolding end_at number_at bytes_at
+no_end One u l = rw (lt-ltb (length u.rest) 2 (omega arith)) refl
+no_end Two u l = rw (lt-ltb (length u.rest) 1 (omega arith)) refl
 
 -- ---- values
 

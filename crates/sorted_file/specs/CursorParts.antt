@@ -6,8 +6,8 @@ use Rattle.sorted_file.specs.declared.cursor.FileCursor.{FileCursor}
 
 -- the entries of the file
 abbrev pub cursor_cells : FileCursor → List Cell
-cursor_cells c = arc_value c.file
+cursor_cells c = (arc_value c.file).cells
 
 -- their part from the top to the end
 abbrev pub cursor_rest : FileCursor → List Cell
-cursor_rest c = slice_range (arc_value c.file) c.top.index c.end
+cursor_rest c = slice_range (cursor_cells c) c.top.index c.end

@@ -1,3 +1,5 @@
+pub mod Versions
+pub mod Contents
 pub mod Image
 pub mod Lists
 pub mod Reading
@@ -6,3 +8,4 @@ pub mod FileParts
 pub mod BuilderParts
 pub mod CursorParts
 pub mod Outlines
+pub mod SpotProps

@@ -2,19 +2,23 @@
 ghost use Rattle.std.specs.Prelude.{◌≡◌, ◌≤◌, false, [], ◌∷◌, ◌++◌, length, is_ok, if◌then◌else◌, IfOk, OnOk};
 ghost use Rattle.std.specs.Option.{option_to_list};
 ghost use Rattle.cell_key.specs.Views.{cell_of};
-ghost use Rattle.sorted_file.specs.Image.{end_magic, end_mark, index_bytes};
+ghost use Rattle.sorted_file.specs.Image.{index_bytes};
 ghost use Rattle.iter_contract.specs.Following.{is_out_of_order};
 ghost use Rattle.sorted_file.specs.Lists.{last_of, longest_value};
+ghost use Rattle.sorted_file.specs.declared.version.Version.TheVariants.{Two};
 
 use crate::entry_writing::write_entry;
 use crate::file::SortedFile;
-use crate::format::{BLOCK_ENTRIES, END_MAGIC, END_MARK, MAGIC, VERSION};
+use crate::format::{BLOCK_ENTRIES, END_MAGIC, MAGIC};
+use crate::outline::{Outline, slices_of};
+use crate::sharing::shared_parts;
+use crate::version::Version;
 use byte_fields::u64_bytes;
 use cell_key::{ByteText, EntryRef, NoMemory};
 use std::alloc::Global;
 use std::marker::Model;
 
-/// A file that is being written, entry by entry.
+/// A file of version 2 that is being written, entry by entry.
 #[derive(Drop)]
 pub struct FileBuilder {
     /// The bytes of an entry while it is put, kept for the next one.
@@ -25,6 +29,8 @@ pub struct FileBuilder {
     blocks: Vec<u64>,
     /// The number of entries.
     count: usize,
+    /// Where the parts of the last entry stand; before the first one there are none.
+    last: Outline,
 }
 
 impl Model for FileBuilder {
@@ -47,12 +53,13 @@ impl FileBuilder {
     {
         let mut bytes = ByteText::new(alloc);
         bytes.append(&MAGIC)?;
-        bytes.append(&VERSION)?;
+        bytes.append(&[Version::Two.number()])?;
         Ok(FileBuilder {
             entry: Vec::new(alloc),
             bytes,
             blocks: Vec::new(alloc),
             count: 0,
+            last: Outline::none(),
         })
     }
 
@@ -63,24 +70,29 @@ impl FileBuilder {
         requires value { length entry.value.now ≤ longest_value entry.key.deleted }
         ensures { self.new ≡ (if is_ok result then self.old ++ cell_of entry.entry ∷ [] else self.old) }
     {
-        write_entry(&mut self.entry, entry)?;
         let begins_block = self.count % BLOCK_ENTRIES == 0;
-        let block = begins_block.then_some(self.bytes.len() as u64);
+        let near = if begins_block { None } else { Some(self.last) };
+        let same = shared_parts(slices_of(near, self.bytes.bytes()), entry);
+        write_entry(&mut self.entry, same, entry)?;
+        let place = self.bytes.len();
+        let block = begins_block.then_some(place as u64);
         append_entry(&mut self.bytes, &mut self.blocks, block, &self.entry)?;
+        self.last = Outline::behind(self.last, same, place + 1, entry, self.bytes.len());
         self.count += 1;
         Ok(())
     }
 
-    /// The file of the entries. After `NoMemory` the builder is gone.
+    /// The file of the entries, in version 2. After `NoMemory` the builder is gone.
     pub fn finish(self) -> Result<SortedFile, NoMemory>
-        ensures { IfOk result (λ file. file ≡ self) }
+        ensures { IfOk result (λ file. file ≡ record { version = Two; cells = self }) }
     {
         let mut bytes = self.bytes;
-        bytes.append(&END_MARK)?;
+        bytes.append(Version::Two.end_mark())?;
         append_index(&mut bytes, self.blocks.as_slice())?;
         bytes.append(&u64_bytes(self.count as u64))?;
         bytes.append(&END_MAGIC)?;
         Ok(SortedFile {
+            version: Version::Two,
             bytes,
             blocks: self.blocks,
             count: self.count,

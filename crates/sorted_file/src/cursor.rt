@@ -5,11 +5,10 @@ ghost use Rattle.tablet_model.specs.Order.{above};
 ghost use Rattle.tablet_model.specs.Sorted.{Ascends};
 ghost use Rattle.tablet_model.specs.Bounds.{AreEntries};
 ghost use Rattle.iter_contract.specs.Props.{Ascends-prop, AreEntries-prop};
-ghost use Rattle.sorted_file.specs.Image.{entry_place};
-ghost use Rattle.sorted_file.specs.Outlines.{IsOutlineAt};
+ghost use Rattle.sorted_file.specs.Outlines.{IsSpot};
+ghost use Rattle.sorted_file.specs.SpotProps.{IsSpot-prop};
 
 use crate::file::SortedFile;
-use crate::outline::Outline;
 use crate::seeking::{end_before, first_behind};
 use crate::spot::Spot;
 use cell_key::{EntryRef, NoMemory, Range};
@@ -25,14 +24,11 @@ pub struct FileCursor {
     /// What is left begins at `top`, and `end` entries of the file stand before its end.
     top: Spot,
     end: usize,
-    /// Where the parts of the top end.
-    outline: Outline,
     ghost order: { top.index ≤ end },
-    ghost bound: { end ≤ length (arc_value file) },
-    ghost place: { top.place ≡ entry_place (arc_value file) top.index },
-    ghost is_outline: { IsOutlineAt (arc_value file) top.index top.place outline },
-    ghost is_sorted: { Ascends above (arc_value file) } by { Ascends-prop (arc_value file) },
-    ghost is_bounded: { AreEntries (arc_value file) } by { AreEntries-prop (arc_value file) },
+    ghost bound: { end ≤ length (arc_value file).cells },
+    ghost is_spot: { IsSpot (arc_value file) top } by { IsSpot-prop (arc_value file) top },
+    ghost is_sorted: { Ascends above (arc_value file).cells } by { Ascends-prop (arc_value file).cells },
+    ghost is_bounded: { AreEntries (arc_value file).cells } by { AreEntries-prop (arc_value file).cells },
 }
 
 impl SortedFile {
@@ -41,18 +37,12 @@ impl SortedFile {
 
     /// A source over the entries of a file. It takes no memory for now.
     pub fn cursor(_alloc: Global, file: &Arc<SortedFile>) -> Result<FileCursor, NoMemory>
-        ensures cells { IfOk result (λ cursor. cursor_cells cursor ≡ arc_value file.now) }
+        ensures cells { IfOk result (λ cursor. cursor_cells cursor ≡ (arc_value file.now).cells) }
         ensures rest { IfOk result (λ cursor. cursor_rest cursor ≡ []) }
     {
         let file = Arc::try_clone(file)?;
         let top = file.start();
-        let outline = file.outline(top);
-        Ok(FileCursor {
-            file,
-            top,
-            end: 0,
-            outline,
-        })
+        Ok(FileCursor { file, top, end: 0 })
     }
 }
 
@@ -76,29 +66,21 @@ impl SortedSource for FileCursor {
         let file: &SortedFile = &self.file;
         let top = first_behind(file, &range.start);
         let end = end_before(file, top, &range.end);
-        let outline = file.outline(top);
         self.top = top;
         self.end = end;
-        self.outline = outline;
         Ok(())
     }
 
     fn top(&self) -> Option<EntryRef<'_>> {
         if self.top.index < self.end {
-            Some(self.file.outlined(self.top, self.outline))
+            Some(self.file.entry(self.top))
         } else {
             None
         }
     }
 
     fn next(&mut self) -> Result<(), NoMemory> {
-        let next = Spot {
-            index: self.top.index + 1,
-            place: self.outline.value_end,
-        };
-        let outline = self.file.outline(next);
-        self.top = next;
-        self.outline = outline;
+        self.top = self.file.next(self.top);
         Ok(())
     }
 

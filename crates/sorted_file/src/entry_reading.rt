@@ -1,13 +1,14 @@
 //! How an entry of an image is read.
-ghost use Rattle.std.specs.Prelude.{◌≤◌, length, IfOk};
+ghost use Rattle.std.specs.Prelude.{◌≡◌, ◌≤◌, length, option_map, IfOk};
 ghost use Rattle.tablet_model.specs.Limits.{max_part};
 ghost use Rattle.cell_key.specs.Views.{cell_of, key_of};
 ghost use Rattle.byte_fields.specs.Answers.{unread_of};
 ghost use Rattle.sorted_file.specs.Answers.{Gives};
-ghost use Rattle.sorted_file.specs.Reading.{entry_at, flag_at, key_at, part_at, row_at, value_at};
+ghost use Rattle.sorted_file.specs.Reading.{entry_at, flag_at, key_at, part_at, row_at, same_at, shared_or, sharer, value_at};
 
 use crate::fault::{Fault, ImageCause};
 use crate::format::MAX_VALUE;
+use crate::version::Version;
 use byte_fields::Input;
 use cell_key::{EntryRef, KeyRef, MAX_KEY_PART};
 
@@ -64,14 +65,109 @@ fn take_value(deleted: bool, input: Input<'_>) -> Result<(&[u8], Input<'_>), Fau
     Ok(rest.take(length as usize)?)
 }
 
-#[tactic(auto, unfolding(crate::specs::Reading::key_at))]
-fn take_key(input: Input<'_>) -> Result<(KeyRef<'_>, Input<'_>), Fault>
-    ensures { Gives (λ x. (key_of x.0, unread_of x.1)) result (key_at (unread_of input.entry)) }
+/// How many parts the entry shares with its neighbour, as it says in version 2.
+#[tactic(auto, unfolding(crate::specs::Reading::same_at))]
+fn take_same<'a>(
+    version: Version,
+    near: Option<EntryRef<'_>>,
+    input: Input<'a>,
+) -> Result<(u8, Input<'a>), Fault>
+    ensures { Gives (λ x. (x.0, unread_of x.1)) result
+        (same_at version (option_map cell_of near.entry) (unread_of input.entry)) }
 {
-    let (row, input) = take_row(input)?;
-    let (family, input) = take_part(input)?;
-    let (qualifier, input) = take_part(input)?;
-    let (visibility, input) = take_part(input)?;
+    if version == Version::One {
+        return Ok((0, input));
+    }
+    let (same, rest) = input.take(1)?;
+    let most = if near.is_some() { 4 } else { 0 };
+    if same[0] > most {
+        return Err(Fault::of(input, ImageCause::Bound));
+    }
+    Ok((same[0], rest))
+}
+
+/// The neighbour's key, if its part of this number is shared.
+fn sharer<'a>(part: u8, same: u8, near: Option<EntryRef<'a>>) -> Option<KeyRef<'a>>
+    ensures { option_map key_of result ≡ sharer part same (option_map cell_of near.entry) }
+{
+    if part < same {
+        near.map(|near| near.key)
+    } else {
+        None
+    }
+}
+
+fn row_or_shared<'a>(
+    near: Option<KeyRef<'a>>,
+    input: Input<'a>,
+) -> Result<(&'a [u8], Input<'a>), Fault>
+    ensures reading { Gives (λ x. (x.0.now, unread_of x.1)) result
+        (shared_or (λ k. k.row) row_at (option_map key_of near.entry) (unread_of input.entry)) }
+    ensures some { IfOk result (λ x. 1 ≤ length x.0.now) }
+    ensures bound { IfOk result (λ x. length x.0.now ≤ max_part) }
+{
+    match near {
+        Some(near) => Ok((near.row, input)),
+        None => take_row(input),
+    }
+}
+
+fn family_or_shared<'a>(
+    near: Option<KeyRef<'a>>,
+    input: Input<'a>,
+) -> Result<(&'a [u8], Input<'a>), Fault>
+    ensures reading { Gives (λ x. (x.0.now, unread_of x.1)) result
+        (shared_or (λ k. k.family) part_at (option_map key_of near.entry) (unread_of input.entry)) }
+    ensures bound { IfOk result (λ x. length x.0.now ≤ max_part) }
+{
+    match near {
+        Some(near) => Ok((near.family, input)),
+        None => take_part(input),
+    }
+}
+
+fn qualifier_or_shared<'a>(
+    near: Option<KeyRef<'a>>,
+    input: Input<'a>,
+) -> Result<(&'a [u8], Input<'a>), Fault>
+    ensures reading { Gives (λ x. (x.0.now, unread_of x.1)) result
+        (shared_or (λ k. k.qualifier) part_at (option_map key_of near.entry) (unread_of input.entry)) }
+    ensures bound { IfOk result (λ x. length x.0.now ≤ max_part) }
+{
+    match near {
+        Some(near) => Ok((near.qualifier, input)),
+        None => take_part(input),
+    }
+}
+
+fn visibility_or_shared<'a>(
+    near: Option<KeyRef<'a>>,
+    input: Input<'a>,
+) -> Result<(&'a [u8], Input<'a>), Fault>
+    ensures reading { Gives (λ x. (x.0.now, unread_of x.1)) result
+        (shared_or (λ k. k.visibility) part_at (option_map key_of near.entry) (unread_of input.entry)) }
+    ensures bound { IfOk result (λ x. length x.0.now ≤ max_part) }
+{
+    match near {
+        Some(near) => Ok((near.visibility, input)),
+        None => take_part(input),
+    }
+}
+
+/// A key of which so many parts are its neighbour's.
+#[tactic(auto, unfolding(crate::specs::Reading::key_at))]
+fn take_key<'a>(
+    same: u8,
+    near: Option<EntryRef<'a>>,
+    input: Input<'a>,
+) -> Result<(KeyRef<'a>, Input<'a>), Fault>
+    ensures { Gives (λ x. (key_of x.0, unread_of x.1)) result
+        (key_at same (option_map cell_of near.entry) (unread_of input.entry)) }
+{
+    let (row, input) = row_or_shared(sharer(0, same, near), input)?;
+    let (family, input) = family_or_shared(sharer(1, same, near), input)?;
+    let (qualifier, input) = qualifier_or_shared(sharer(2, same, near), input)?;
+    let (visibility, input) = visibility_or_shared(sharer(3, same, near), input)?;
     let (time, input) = input.take_u64()?;
     let (deleted, input) = take_flag(input)?;
     let key = KeyRef {
@@ -85,12 +181,29 @@ fn take_key(input: Input<'_>) -> Result<(KeyRef<'_>, Input<'_>), Fault>
     Ok((key, input))
 }
 
-/// The entry that the input begins with, and what follows it.
+/// An entry of an image, as it is read.
+#[derive(Clone, Copy)]
+pub struct Taken<'a> {
+    /// How many parts of its key are its neighbour's.
+    pub same: u8,
+    pub entry: EntryRef<'a>,
+    /// What follows it.
+    pub rest: Input<'a>,
+}
+
+/// The entry that the input begins with; its neighbour is the entry before it that it may share parts with.
 #[tactic(auto, unfolding(crate::specs::Reading::entry_at))]
-pub fn take_entry(input: Input<'_>) -> Result<(EntryRef<'_>, Input<'_>), Fault>
-    ensures { Gives (λ x. (cell_of x.0, unread_of x.1)) result (entry_at (unread_of input.entry)) }
+pub fn take_entry<'a>(
+    version: Version,
+    near: Option<EntryRef<'a>>,
+    input: Input<'a>,
+) -> Result<Taken<'a>, Fault>
+    ensures { Gives (λ taken. ((taken.same, cell_of taken.entry), unread_of taken.rest)) result
+        (entry_at version (option_map cell_of near.entry) (unread_of input.entry)) }
 {
-    let (key, input) = take_key(input)?;
-    let (value, input) = take_value(key.deleted, input)?;
-    Ok((EntryRef { key, value }, input))
+    let (same, input) = take_same(version, near, input)?;
+    let (key, input) = take_key(same, near, input)?;
+    let (value, rest) = take_value(key.deleted, input)?;
+    let entry = EntryRef { key, value };
+    Ok(Taken { same, entry, rest })
 }

@@ -2,15 +2,20 @@
 ghost use Rattle.std.specs.Prelude.{◌≡◌, ◌≤◌, ◌++◌, length, OnOk};
 ghost use Rattle.tablet_model.specs.Limits.{max_part, max_value};
 ghost use Rattle.cell_key.specs.Views.{cell_of, key_of};
-ghost use Rattle.sorted_file.specs.Image.{entry_bytes, flag_bytes, key_bytes, part_bytes, value_bytes};
+ghost use Rattle.sorted_file.specs.Image.{flag_bytes, key_bytes, own_bytes, sharing_bytes, value_bytes};
+ghost use Rattle.sorted_file.specs.declared.version.Version.TheVariants.{Two};
 
 use byte_fields::{append_u16, append_u32, append_u64};
 use cell_key::{EntryRef, KeyRef, NoMemory};
 
-fn append_part(bytes: &mut Vec<u8>, part: &[u8]) -> Result<(), NoMemory>
+/// Appends a part of a key that isn't shared.
+fn append_part(bytes: &mut Vec<u8>, is_shared: bool, part: &[u8]) -> Result<(), NoMemory>
     requires { length part.now ≤ max_part }
-    ensures { OnOk result (bytes.new.items ≡ bytes.old.items ++ part_bytes part.now) }
+    ensures { OnOk result (bytes.new.items ≡ bytes.old.items ++ own_bytes is_shared part.now) }
 {
+    if is_shared {
+        return Ok(());
+    }
     append_u16(bytes, part.len() as u16)?;
     bytes.extend_from_slice(part)?;
     Ok(())
@@ -33,25 +38,26 @@ fn append_value(bytes: &mut Vec<u8>, value: &[u8]) -> Result<(), NoMemory>
 }
 
 #[tactic(auto, unfolding(crate::specs::Image::key_bytes))]
-fn append_key(bytes: &mut Vec<u8>, key: KeyRef<'_>) -> Result<(), NoMemory>
-    ensures { OnOk result (bytes.new.items ≡ bytes.old.items ++ key_bytes (key_of key.entry)) }
+fn append_key(bytes: &mut Vec<u8>, same: u8, key: KeyRef<'_>) -> Result<(), NoMemory>
+    ensures { OnOk result (bytes.new.items ≡ bytes.old.items ++ key_bytes same (key_of key.entry)) }
 {
-    append_part(bytes, key.row)?;
-    append_part(bytes, key.family)?;
-    append_part(bytes, key.qualifier)?;
-    append_part(bytes, key.visibility)?;
+    append_part(bytes, 0 < same, key.row)?;
+    append_part(bytes, 1 < same, key.family)?;
+    append_part(bytes, 2 < same, key.qualifier)?;
+    append_part(bytes, 3 < same, key.visibility)?;
     append_u64(bytes, key.time.cast_unsigned())?;
     append_flag(bytes, key.deleted)
 }
 
-/// Writes the bytes of an entry in an image over what was there. It takes memory only where an entry is longer than all
-/// before it.
-#[tactic(auto, unfolding(crate::specs::Image::entry_bytes))]
-pub fn write_entry(bytes: &mut Vec<u8>, entry: EntryRef<'_>) -> Result<(), NoMemory>
+/// Writes the bytes of an entry that shares so many parts, in an image of version 2, over what was there. It takes memory only
+/// where an entry is longer than all before it.
+#[tactic(auto, unfolding(crate::specs::Image::sharing_bytes))]
+pub fn write_entry(bytes: &mut Vec<u8>, same: u8, entry: EntryRef<'_>) -> Result<(), NoMemory>
     requires { length entry.value.now ≤ max_value }
-    ensures { OnOk result (bytes.new.items ≡ entry_bytes (cell_of entry.entry)) }
+    ensures { OnOk result (bytes.new.items ≡ sharing_bytes Two same (cell_of entry.entry)) }
 {
     bytes.clear();
-    append_key(bytes, entry.key)?;
+    bytes.push(same)?;
+    append_key(bytes, same, entry.key)?;
     append_value(bytes, entry.value)
 }

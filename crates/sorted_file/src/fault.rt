@@ -12,8 +12,10 @@ pub enum ImageCause {
     Magic,
     /// The version is not one that is read.
     Version,
-    /// A length or a flag is out of bounds.
+    /// A length, a flag or a number of shared parts is out of bounds.
     Bound,
+    /// The entry shares fewer parts with the one before it than it could, or more.
+    Shared,
     /// The entry sorts before the one before it.
     Order,
     /// A field of the index is not its block's place.
@@ -25,7 +27,8 @@ pub enum ImageCause {
 /// The first fault of bytes that are no image.
 #[derive(Clone, Copy, Debug, PartialEq, Eq)]
 pub struct Fault {
-    /// The place of the field's first byte, or of the entry's where its order is the cause, counted from 0.
+    /// The place of the field's first byte, or of the entry's where its shared parts or its order are the cause, counted from
+    /// 0.
     pub at: u64,
     pub cause: ImageCause,
 }

@@ -2,14 +2,16 @@
 ghost use Rattle.std.specs.Prelude.{◌≡◌, ◌<◌, ◌≤◌, ◌++◌, None, All, IfOk, OnOk, length, option_map};
 ghost use Rattle.cell_key.specs.Views.{cell_of};
 ghost use Rattle.byte_fields.specs.Answers.{unread_of};
-ghost use Rattle.sorted_file.specs.Answers.{Gives, Opens, count_in, counted, list_in};
-ghost use Rattle.sorted_file.specs.Image.{block_places, block_start, image_of};
+ghost use Rattle.sorted_file.specs.Answers.{Gives, Opens, contents_in, counted, shape_of};
+ghost use Rattle.sorted_file.specs.Image.{block_places, block_start, image_of, neighbour};
 ghost use Rattle.sorted_file.specs.Lists.{IsFileList};
-ghost use Rattle.sorted_file.specs.Reading.{entries_at, expected_at, footer_at, head_at, image_reading, index_at, next_entry_at};
+ghost use Rattle.sorted_file.specs.Reading.{end_at, entries_at, expected_at, footer_at, head_at, image_reading, index_at, next_entry_at, version_at};
 
-use crate::entry_reading::take_entry;
+use crate::entry_reading::{Taken, take_entry};
 use crate::fault::{Fault, ImageCause, OpenError};
-use crate::format::{BLOCK_ENTRIES, END_MAGIC, MAGIC, VERSION};
+use crate::format::{BLOCK_ENTRIES, END_MAGIC, MAGIC};
+use crate::sharing::shared_parts;
+use crate::version::Version;
 use byte_fields::{Input, u64_bytes};
 use cell_key::{EntryRef, NoMemory};
 use iter_contract::is_out_of_order;
@@ -18,6 +20,7 @@ use std::alloc::Global;
 /// What an image says of its entries.
 #[derive(Drop)]
 pub struct Contents {
+    pub version: Version,
     /// The places of the blocks.
     pub blocks: Vec<u64>,
     /// The number of entries.
@@ -35,20 +38,55 @@ struct Body<'a> {
     rest: Input<'a>,
 }
 
-/// The next entry, which does not sort before the one before it.
+/// The next entry, with so many before it, of which one is the last. It shares as many parts as may be, and does not sort
+/// before the last one.
 #[tactic(auto, unfolding(crate::specs::Reading::next_entry_at))]
 fn take_next<'a>(
-    before: Option<EntryRef<'_>>,
+    version: Version,
+    count: usize,
+    before: Option<EntryRef<'a>>,
     input: Input<'a>,
 ) -> Result<(EntryRef<'a>, Input<'a>), Fault>
     ensures { Gives (λ x. (cell_of x.0, unread_of x.1)) result
-        (next_entry_at (option_map cell_of before.entry) (unread_of input.entry)) }
+        (next_entry_at version count (option_map cell_of before.entry) (unread_of input.entry)) }
 {
-    let (entry, rest) = take_entry(input)?;
+    let near = neighbour(version, count, before);
+    let Taken { same, entry, rest } = take_entry(version, near, input)?;
+    if shared_parts(near, entry) != same {
+        return Err(Fault::of(input, ImageCause::Shared));
+    }
     if is_out_of_order(before, entry) {
         return Err(Fault::of(input, ImageCause::Order));
     }
     Ok((entry, rest))
+}
+
+/// Whether the end mark stands in the place of an entry's first field, and what follows that field.
+#[tactic(auto, unfolding(crate::specs::Reading::end_at))]
+fn take_end(version: Version, input: Input<'_>) -> Result<(bool, Input<'_>), Fault>
+    ensures { Gives (λ x. (x.0, unread_of x.1)) result (end_at version (unread_of input.entry)) }
+{
+    match version {
+        Version::One => {
+            let (row, rest) = input.take_u16()?;
+            Ok((row == 0, rest))
+        }
+        Version::Two => {
+            let (same, rest) = input.take(1)?;
+            Ok((same[0] == 255, rest))
+        }
+    }
+}
+
+/// The entry that the one behind it may share parts with; so many are before that one.
+fn neighbour<'a>(
+    version: Version,
+    count: usize,
+    before: Option<EntryRef<'a>>,
+) -> Option<EntryRef<'a>>
+    ensures { option_map cell_of result ≡ neighbour version count (option_map cell_of before.entry) }
+{
+    if version.shares(count) { before } else { None }
 }
 
 /// Puts the place of an entry to those of the blocks, if it begins one.
@@ -62,26 +100,31 @@ fn note_block(places: &mut Vec<u64>, count: usize, place: usize) -> Result<(), N
 }
 
 /// The entries up to the end mark.
-fn take_body<'a>(alloc: Global, most: usize, input: Input<'a>) -> Result<Body<'a>, OpenError>
+fn take_body<'a>(
+    alloc: Global,
+    version: Version,
+    most: usize,
+    input: Input<'a>,
+) -> Result<Body<'a>, OpenError>
     requires few { length input.rest.now ≤ most }
     requires bytes { All (λ b. b < 256) input.rest.now }
     ensures { Opens (λ body. (body.places.items, body.count, unread_of body.rest)) result
-        (counted input.entry.at (entries_at most None (unread_of input.entry))) }
+        (counted version input.entry.at (entries_at version most 0 None (unread_of input.entry))) }
 {
     let mut places = Vec::new(alloc);
     let mut count = 0;
     let mut before = None;
     let mut rest = input;
     loop {
-        let (length, behind) = rest.take_u16()?;
-        if length == 0 {
+        let (ends, behind) = take_end(version, rest)?;
+        if ends {
             return Ok(Body {
                 places,
                 count,
                 rest: behind,
             });
         }
-        let (entry, behind) = take_next(before, rest)?;
+        let (entry, behind) = take_next(version, count, before, rest)?;
         note_block(&mut places, count, rest.at)?;
         count += 1;
         before = Some(entry);
@@ -126,30 +169,45 @@ fn take_footer<'a>(places: &[u64], count: usize, input: Input<'a>) -> Result<Inp
     Ok(input)
 }
 
-/// What stands before the entries.
-#[tactic(auto, unfolding(crate::specs::Reading::head_at))]
-fn take_head(input: Input<'_>) -> Result<Input<'_>, Fault>
-    ensures { Gives unread_of result (head_at (unread_of input.entry)) }
+/// The version of an image, which is one of two.
+#[tactic(auto, unfolding(crate::specs::Reading::version_at))]
+fn take_version(input: Input<'_>) -> Result<(Version, Input<'_>), Fault>
+    ensures { Gives (λ x. (x.0, unread_of x.1)) result (version_at (unread_of input.entry)) }
 {
-    let input = expect(input, &MAGIC, ImageCause::Magic)?;
-    expect(input, &VERSION, ImageCause::Version)
+    let (number, rest) = input.take(1)?;
+    match number[0] {
+        1 => Ok((Version::One, rest)),
+        2 => Ok((Version::Two, rest)),
+        _ => Err(Fault::of(input, ImageCause::Version)),
+    }
 }
 
-/// What an image says of its entries: where its blocks stand, and how many entries there are.
-pub fn read_image(alloc: Global, bytes: &[u8]) -> Result<Contents, OpenError>
-    ensures count { Opens (λ contents. contents.count) result (count_in (image_reading bytes.now)) }
-    ensures blocks { IfOk result (λ contents. contents.blocks.items ≡ block_places (list_in bytes.now)) }
-    ensures image { OnOk result (image_of (list_in bytes.now) ≡ bytes.now) }
-    ensures list { OnOk result (IsFileList (list_in bytes.now)) }
+/// What stands before the entries.
+#[tactic(auto, unfolding(crate::specs::Reading::head_at))]
+fn take_head(input: Input<'_>) -> Result<(Version, Input<'_>), Fault>
+    ensures { Gives (λ x. (x.0, unread_of x.1)) result (head_at (unread_of input.entry)) }
 {
-    let input = take_head(Input { at: 0, rest: bytes })?;
+    let input = expect(input, &MAGIC, ImageCause::Magic)?;
+    take_version(input)
+}
+
+/// What an image says of its entries: its version, where its blocks stand, and how many entries there are.
+pub fn read_image(alloc: Global, bytes: &[u8]) -> Result<Contents, OpenError>
+    ensures shape { Opens (λ contents. (contents.version, contents.count)) result (shape_of (image_reading bytes.now)) }
+    ensures blocks { IfOk result (λ contents. contents.blocks.items
+        ≡ block_places contents.version (contents_in bytes.now).cells) }
+    ensures image { IfOk result (λ contents. image_of contents.version (contents_in bytes.now).cells ≡ bytes.now) }
+    ensures list { OnOk result (IsFileList (contents_in bytes.now).cells) }
+{
+    let (version, input) = take_head(Input { at: 0, rest: bytes })?;
     let Body {
         places,
         count,
         rest,
-    } = take_body(alloc, bytes.len(), input)?;
+    } = take_body(alloc, version, bytes.len(), input)?;
     take_footer(places.as_slice(), count, rest)?;
     Ok(Contents {
+        version,
         blocks: places,
         count,
     })

@@ -12,7 +12,11 @@ mod image_laws;
 mod image_reading;
 mod outline;
 mod seeking;
+mod sharing;
 mod spot;
+mod upgrading;
+mod version;
+mod walking;
 
 pub use builder::FileBuilder;
 pub use cursor::FileCursor;

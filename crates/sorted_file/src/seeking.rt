@@ -3,7 +3,7 @@ ghost use Rattle.std.specs.Prelude.{◌≡◌, ◌≤◌, ◌-◌, false, length
 ghost use Rattle.std.specs.List.{AllByRecursion};
 ghost use Rattle.tablet_model.specs.Cuts.{is_behind, is_before};
 ghost use Rattle.cell_key.specs.Ranges.{cut_of};
-ghost use Rattle.sorted_file.specs.Image.{entry_place};
+ghost use Rattle.sorted_file.specs.Outlines.{IsSpot};
 
 use crate::file::SortedFile;
 use crate::spot::Spot;
@@ -11,32 +11,31 @@ use cell_key::{Bound, lies_before, lies_behind};
 
 /// Where the first entry behind a start stands, or the end of the entries where none is behind it.
 pub fn first_behind(file: &SortedFile, start: &Bound<'_>) -> Spot
-    ensures within { result.index ≤ length file.now }
-    ensures place { result.place ≡ entry_place file.now result.index }
-    ensures behind { filter (λ e. is_behind (cut_of start.now) e.key) file.now ≡ drop result.index file.now }
+    ensures within { result.index ≤ length file.now.cells }
+    ensures spot { IsSpot file.now result }
+    ensures behind { filter (λ e. is_behind (cut_of start.now) e.key) file.now.cells ≡ drop result.index file.now.cells }
 {
     if let Bound::Open = start {
         return file.start();
     }
     let mut spot = last_block_before(file, start);
     while spot.index < file.len() {
-        let (entry, next) = file.entry(spot);
-        if lies_behind(start, entry.key) {
+        if lies_behind(start, file.entry(spot).key) {
             return spot;
         }
-        spot = next;
+        spot = file.next(spot);
     }
     spot
 }
 
 /// How many entries stand before the first one, from a spot on, that does not lie before an end.
 pub fn end_before(file: &SortedFile, from: Spot, end: &Bound<'_>) -> usize
-    requires within { from.index ≤ length file.now }
-    requires place { from.place ≡ entry_place file.now from.index }
+    requires within { from.index ≤ length file.now.cells }
+    requires spot { IsSpot file.now from }
     ensures order { from.index ≤ result }
-    ensures within { result ≤ length file.now }
-    ensures before { filter (λ e. is_before (cut_of end.now) e.key) (drop from.index file.now)
-        ≡ take (result - from.index) (drop from.index file.now) }
+    ensures within { result ≤ length file.now.cells }
+    ensures before { filter (λ e. is_before (cut_of end.now) e.key) (drop from.index file.now.cells)
+        ≡ take (result - from.index) (drop from.index file.now.cells) }
 {
     if let Bound::Open = end {
         return file.len();
@@ -48,11 +47,10 @@ pub fn end_before(file: &SortedFile, from: Spot, end: &Bound<'_>) -> usize
         from
     };
     while spot.index < file.len() {
-        let (entry, next) = file.entry(spot);
-        if !lies_before(end, entry.key) {
+        if !lies_before(end, file.entry(spot).key) {
             return spot.index;
         }
-        spot = next;
+        spot = file.next(spot);
     }
     spot.index
 }
@@ -60,9 +58,9 @@ pub fn end_before(file: &SortedFile, from: Spot, end: &Bound<'_>) -> usize
 /// Where the last block begins whose first entry does not lie behind a bound, or the first entry where there is none
 /// such.
 fn last_block_before(file: &SortedFile, bound: &Bound<'_>) -> Spot
-    ensures within { result.index ≤ length file.now }
-    ensures place { result.place ≡ entry_place file.now result.index }
-    ensures passed { AllByRecursion (λ e. is_behind (cut_of bound.now) e.key ≡ false) (take result.index file.now) }
+    ensures within { result.index ≤ length file.now.cells }
+    ensures spot { IsSpot file.now result }
+    ensures passed { AllByRecursion (λ e. is_behind (cut_of bound.now) e.key ≡ false) (take result.index file.now.cells) }
 {
     let mut last = file.start();
     let mut low = 0;
@@ -70,8 +68,7 @@ fn last_block_before(file: &SortedFile, bound: &Bound<'_>) -> Spot
     while low < high {
         let middle = low + (high - low) / 2;
         let block = file.block(middle);
-        let (entry, _) = file.entry(block);
-        if lies_behind(bound, entry.key) {
+        if lies_behind(bound, file.entry(block).key) {
             high = middle;
         } else {
             low = middle + 1;

@@ -6,7 +6,7 @@ pub returns-clause-read : goal.returns-clause-read
 returns-clause-read c = image_again
 
 pub returns-clause-image : goal.returns-clause-image
-returns-clause-image c = λ bytes list are e. (image_take bytes list (in_bytes bytes are) e).0
+returns-clause-image c = λ bytes file are e. (image_take bytes file (in_bytes bytes are) e).0
 
 pub returns-clause-list : goal.returns-clause-list
-returns-clause-list c = λ bytes list are e. (image_take bytes list (in_bytes bytes are) e).1
+returns-clause-list c = λ bytes file are e. (image_take bytes file (in_bytes bytes are) e).1
