@@ -1,18 +1,18 @@
 -- Where the blocks of a file begin, and what lies before a block.
-use Rattle.std.proofs.Common.{◌≡◌, ℕ, zero, suc, ◌+◌, ◌-◌, ◌*◌, ◌%◌, ◌<◌, ◌≤◌, Bool, true, false, eqb, cond, List, [], ◌∷◌, ◌++◌, length, take, drop, get_or, Some, slice_get, refl, sym, ap, subst, ◌∙◌, length-append, arith}
+use Rattle.std.proofs.Common.{◌≡◌, ℕ, zero, suc, ◌+◌, ◌-◌, ◌*◌, ◌%◌, ◌<◌, ◌≤◌, Bool, true, false, eqb, cond, List, [], ◌∷◌, ◌++◌, length, take, drop, get_or, Option, None, Some, slice_get, refl, sym, ap, subst, ◌∙◌, length-append, arith}
 use Rattle.std.specs.List.{filter, AllByRecursion}
 use Rattle.std.specs.declared.cmp.Ordering.{Ordering}
 use Rattle.std.specs.declared.cmp.Ordering.TheVariants.{Less, Equal, Greater}
 use Rattle.std.specs.Ordering.{is_lt, is_le, is_gt, is_ge}
 use Rattle.std.proofs.lemmas.Bool.Decides.{nat_tests}
-use Rattle.std.proofs.lemmas.List.Concat.{flat_map-cons}
 use Rattle.std.proofs.lemmas.List.{drop-drop, drop-take, take-append-drop}
 use Rattle.tablet_model.specs.Cell.{CellKey, Cell}
 use Rattle.tablet_model.specs.Order.{above, key_cmp, bytes_cmp}
 use Rattle.tablet_model.specs.Sorted.{Ascends}
 use Rattle.tablet_model.specs.Cuts.{Cut, Everything, Before, Behind, BeforeRow, BehindRow, is_behind, is_before}
 use Rattle.tablet_model.proofs.CutLemmas.{behind_up, key_le}
-use Rattle.sorted_file.specs.Image.{entry_bytes, entries_bytes, entry_place, block_start, blocks_from, block_places}
+use Rattle.sorted_file.specs.Image.{neighbour, entry_bytes, entries_from, entry_place, block_start, blocks_from, block_places}
+use Rattle.sorted_file.specs.declared.version.Version.{Version}
 use Rattle.sorted_file.proofs.Walks.{UpTo}
 
 -- ---- where blocks begin
@@ -23,47 +23,47 @@ begins n h = grind (arith, nat_tests)
 goes_on : (n : ℕ) → eqb (n % 64) 0 ≡ false → n % 64 ≡ 0 → ⊥
 goes_on n h e = grind (arith, nat_tests)
 
--- a place behind a first entry
-one_behind : (x : Cell) (xs : List Cell) (i j at place : ℕ) → i ≡ suc j → (j < length xs) × (place ≡ (at + length (entry_bytes x)) + length (entries_bytes (take j xs)))
-    → (i < length (x ∷ xs)) × (place ≡ at + length (entries_bytes (take i (x ∷ xs))))
-one_behind x xs i j at place e h =
-    let bytes : length (entries_bytes (take (suc j) (x ∷ xs))) ≡ length (entry_bytes x) + length (entries_bytes (take j xs)) =
-    ap length (flat_map-cons entry_bytes x (take j xs)) ∙ length-append (entry_bytes x) (entries_bytes (take j xs)) in
-    subst (λ n. (n < length (x ∷ xs)) × (place ≡ at + length (entries_bytes (take n (x ∷ xs))))) (sym e) (omega (arith, h.0), omega (arith, h.1, bytes))
-
 -- of the blocks behind n entries the k-th begins i entries later, where the first one behind them has the number q
-abbrev IsBlock : List Cell → ℕ → ℕ → ℕ → List ℕ → Type 0
-IsBlock list k i at places = (i < length list) × (get_or places k 0 ≡ at + length (entries_bytes (take i list)))
+abbrev IsBlock : Version → ℕ → Option Cell → List Cell → ℕ → ℕ → ℕ → List ℕ → Type 0
+IsBlock v n before list k i at places = (i < length list) × (get_or places k 0 ≡ at + length (entries_from v n before (take i list)))
 
-first_block : (x : Cell) (xs : List Cell) (n q k i at : ℕ) (places : List ℕ) → n ≤ 64 * q → 64 * q < n + 64 → n + i ≡ 64 * (q + k) → k < length (block_start n at ++ places)
-    → ((q' k' i' : ℕ) → n + 1 ≤ 64 * q' → 64 * q' < (n + 1) + 64 → (n + 1) + i' ≡ 64 * (q' + k') → k' < length places → IsBlock xs k' i' (at + length (entry_bytes x)) places)
-    → IsBlock (x ∷ xs) k i at (block_start n at ++ places)
-first_block x xs n q k i at places low high e l next = go (eqb (n % 64) 0) refl k e l
+-- a place behind a first entry
+one_behind : (v : Version) (n : ℕ) (before : Option Cell) (x : Cell) (xs : List Cell) (i j at place : ℕ) → i ≡ suc j
+    → (j < length xs) × (place ≡ (at + length (entry_bytes v (neighbour v n before) x)) + length (entries_from v (n + 1) (Some x) (take j xs)))
+    → (i < length (x ∷ xs)) × (place ≡ at + length (entries_from v n before (take i (x ∷ xs))))
+one_behind v n before x xs i j at place e h =
+    let bytes = length-append (entry_bytes v (neighbour v n before) x) (entries_from v (n + 1) (Some x) (take j xs)) in
+    subst (λ m. (m < length (x ∷ xs)) × (place ≡ at + length (entries_from v n before (take m (x ∷ xs))))) (sym e) (omega (arith, h.0), omega (arith, h.1, bytes))
+
+first_block : (v : Version) (before : Option Cell) (x : Cell) (xs : List Cell) (n q k i at : ℕ) (places : List ℕ) → n ≤ 64 * q → 64 * q < n + 64 → n + i ≡ 64 * (q + k) → k < length (block_start n at ++ places)
+    → ((q' k' i' : ℕ) → n + 1 ≤ 64 * q' → 64 * q' < (n + 1) + 64 → (n + 1) + i' ≡ 64 * (q' + k') → k' < length places → IsBlock v (n + 1) (Some x) xs k' i' (at + length (entry_bytes v (neighbour v n before) x)) places)
+    → IsBlock v n before (x ∷ xs) k i at (block_start n at ++ places)
+first_block v before x xs n q k i at places low high e l next = go (eqb (n % 64) 0) refl k e l
   where
-    go : (b : Bool) → eqb (n % 64) 0 ≡ b → (k : ℕ) → n + i ≡ 64 * (q + k) → k < length (cond b (at ∷ []) [] ++ places) → IsBlock (x ∷ xs) k i at (cond b (at ∷ []) [] ++ places)
+    go : (b : Bool) → eqb (n % 64) 0 ≡ b → (k : ℕ) → n + i ≡ 64 * (q + k) → k < length (cond b (at ∷ []) [] ++ places) → IsBlock v n before (x ∷ xs) k i at (cond b (at ∷ []) [] ++ places)
     go true h zero e l =
         let whole = begins n h in
         let none : zero ≡ i = omega arith in
         let here : at ≡ at + 0 = omega arith in
-        subst (λ m. (m < length (x ∷ xs)) × (at ≡ at + length (entries_bytes (take m (x ∷ xs))))) none (omega arith, here)
+        subst (λ m. (m < length (x ∷ xs)) × (at ≡ at + length (entries_from v n before (take m (x ∷ xs))))) none (omega arith, here)
     go true h (suc k) e l =
         let whole = begins n h in
-        one_behind x xs i (i - 1) at (get_or places k 0) (omega arith) (next (q + 1) k (i - 1) (omega arith) (omega arith) (omega arith) (omega arith))
+        one_behind v n before x xs i (i - 1) at (get_or places k 0) (omega arith) (next (q + 1) k (i - 1) (omega arith) (omega arith) (omega arith) (omega arith))
     go false h k e l =
         let part = goes_on n h in
-        one_behind x xs i (i - 1) at (get_or places k 0) (omega arith) (next q k (i - 1) (omega arith) (omega arith) (omega arith) l)
+        one_behind v n before x xs i (i - 1) at (get_or places k 0) (omega arith) (next q k (i - 1) (omega arith) (omega arith) (omega arith) l)
 
-block_at : (list : List Cell) (n q k i at : ℕ) → n ≤ 64 * q → 64 * q < n + 64 → n + i ≡ 64 * (q + k) → k < length (blocks_from n at list) → IsBlock list k i at (blocks_from n at list)
+block_at : (v : Version) (before : Option Cell) (list : List Cell) (n q k i at : ℕ) → n ≤ 64 * q → 64 * q < n + 64 → n + i ≡ 64 * (q + k) → k < length (blocks_from v n at before list) → IsBlock v n before list k i at (blocks_from v n at before list)
 unfolding blocks_from
-block_at [] n q k i at low high e l = absurd (omega arith)
-block_at (x ∷ xs) n q k i at low high e l =
-    first_block x xs n q k i at (blocks_from (n + 1) (at + length (entry_bytes x)) xs) low high e l
-    (λ q' k' i' low' high' e' l'. block_at xs (n + 1) q' k' i' (at + length (entry_bytes x)) low' high' e' l')
+block_at v before [] n q k i at low high e l = absurd (omega arith)
+block_at v before (x ∷ xs) n q k i at low high e l =
+    let after : ℕ = at + length (entry_bytes v (neighbour v n before) x) in
+    first_block v before x xs n q k i at (blocks_from v (n + 1) after (Some x) xs) low high e l (λ q' k' i' low' high' e' l'. block_at v (Some x) xs (n + 1) q' k' i' after low' high' e' l')
 
 -- a block begins with an entry
-pub block_is_at : (list : List Cell) (k i : ℕ) (places : List ℕ) → places ≡ block_places list → i ≡ 64 * k → k < length (block_places list) → (i < length list) × (get_or places k 0 ≡ entry_place list i)
-block_is_at list k i places same e l =
-    subst (λ ps. (i < length list) × (get_or ps k 0 ≡ entry_place list i)) (sym same) (block_at list 0 0 k i 5 (omega arith) (omega arith) (omega arith) l)
+pub block_is_at : (v : Version) (list : List Cell) (k i : ℕ) (places : List ℕ) → places ≡ block_places v list → i ≡ 64 * k → k < length (block_places v list) → (i < length list) × (get_or places k 0 ≡ entry_place v list i)
+block_is_at v list k i places same e l =
+    subst (λ ps. (i < length list) × (get_or ps k 0 ≡ entry_place v list i)) (sym same) (block_at v None list 0 0 k i 5 (omega arith) (omega arith) (omega arith) l)
 
 -- ---- what lies before a block
 

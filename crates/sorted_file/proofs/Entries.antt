@@ -8,7 +8,7 @@ use Rattle.tablet_model.specs.Bounds.{KeyBounds, IsTime}
 use Rattle.tablet_model.proofs.Times.{time_fits, time_below, time_is}
 use Rattle.byte_fields.specs.Fields.{◌>>=◌, Unread, number_at}
 use Rattle.byte_fields.proofs.Fields.{bind_ok, ok_is, told_ok, IsBytes, Takes, Takes-then, Again, Again-then, told_again, wide8, number_again, number_take}
-use Rattle.sorted_file.specs.Image.{part_bytes, own_bytes, flag_bytes, value_bytes, neighbour, shared_parts, key_bytes, sharing_bytes, entry_bytes}
+use Rattle.sorted_file.specs.Image.{own_bytes, flag_bytes, value_bytes, neighbour, shared_parts, key_bytes, sharing_bytes, entry_bytes}
 use Rattle.sorted_file.specs.Versions.{same_bytes}
 use Rattle.sorted_file.specs.Lists.{longest_value, IsFileEntry}
 use Rattle.sorted_file.specs.Reading.{fault, uncut, most_shared, same_at, sharer, shared_or, row_at, part_at, flag_at, value_at, key_at, entry_at}
@@ -77,8 +77,8 @@ same_key k in_time = let t = to_z-of_z w64 k.time (time_fits k.time in_time) in 
 
 parts_again : (same : ℕ) (near : Option Cell) (k : CellKey) (n : ℕ) → KeyBounds k.row k.family k.qualifier k.visibility → n < 2 ^ 64 → AreShared same near k
     → Again (key_at same near)
-        (row_of same k.row ++ (family_of same k.family ++ (qualifier_of same k.qualifier ++ (visibility_of same k.visibility ++ (big_bytes 8 n ++ flag_bytes k.deleted)))))
-        (made k.row k.family k.qualifier k.visibility n k.deleted)
+    (row_of same k.row ++ (family_of same k.family ++ (qualifier_of same k.qualifier ++ (visibility_of same k.visibility ++ (big_bytes 8 n ++ flag_bytes k.deleted)))))
+    (made k.row k.family k.qualifier k.visibility n k.deleted)
 unfolding key_at
 parts_again same near k n bounds below shared =
     let key : CellKey = made k.row k.family k.qualifier k.visibility n k.deleted in

@@ -12,3 +12,4 @@ pub mod Places
 pub mod Blocks
 pub mod Walks
 pub mod Layouts
+pub mod Pushing

@@ -5,7 +5,7 @@ use Rattle.std.proofs.lemmas.Bool.{ltb-false, le-ltb, lt-ltb, eqb-true}
 use Rattle.std.proofs.lemmas.Bool.Decides.{nat_tests}
 use Rattle.std.proofs.lemmas.Slice.Eq.{bytes_eq-Decides}
 use Rattle.byteorder.specs.Endian.{big_bytes}
-use Rattle.byte_fields.specs.Fields.{◌>>=◌, Unread, bytes_at, number_at}
+use Rattle.byte_fields.specs.Fields.{Unread, bytes_at, number_at}
 use Rattle.byte_fields.proofs.Fields.{bind_ok, then_ok, ok_is, told_ok, IsBytes, spot, Takes, Again, bytes_again, bytes_take, wide2, wide4, number_again, number_take, sized_again, sized_take}
 use Rattle.sorted_file.specs.Image.{version_bytes, part_bytes, flag_bytes, value_bytes}
 use Rattle.sorted_file.specs.Versions.{end_mark}

@@ -1,11 +1,11 @@
 -- Parts that an entry shares with its neighbour: how many they are, and how they are written and read.
-use Rattle.std.proofs.Common.{◌≡◌, ℕ, ◌+◌, ◌<◌, ◌≤◌, Bool, true, false, cond, ltb, List, [], ◌∷◌, ◌++◌, length, get_or, Option, Some, None, option_map, Result, Ok, Err, refl, sym, ap, subst, ◌∙◌, arith}
+use Rattle.std.proofs.Common.{◌≡◌, ℕ, ◌+◌, ◌≤◌, Bool, true, false, cond, ltb, List, [], ◌∷◌, get_or, Option, Some, None, option_map, Result, Ok, Err, refl, ap, subst, ◌∙◌, arith}
 use Rattle.std.specs.Str.{bytes_eq}
 use Rattle.std.proofs.lemmas.Bool.{ltb-true, ltb-false, le-ltb}
 use Rattle.std.proofs.lemmas.Slice.Eq.{bytes_eq-Decides}
 use Rattle.tablet_model.specs.Cell.{CellKey, Cell}
 use Rattle.tablet_model.specs.Bounds.{IsEntry}
-use Rattle.byte_fields.specs.Fields.{◌>>=◌, Unread, bytes_at}
+use Rattle.byte_fields.specs.Fields.{Unread, bytes_at}
 use Rattle.byte_fields.proofs.Fields.{bind_ok, else_ok, ok_is, IsBytes, spot, Takes, Again, bytes_again}
 use Rattle.sorted_file.specs.Image.{part_bytes, equal_parts, neighbour, shared_parts, own_bytes}
 use Rattle.sorted_file.specs.Versions.{same_bytes, has_neighbour}

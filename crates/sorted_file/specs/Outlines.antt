@@ -4,11 +4,9 @@ use Rattle.tablet_model.specs.Cell.{Cell}
 use Rattle.tablet_model.specs.Bounds.{IsEntry}
 use Rattle.sorted_file.specs.Contents.{FileContents}
 use Rattle.sorted_file.specs.Image.{entry_place, image_of}
-use Rattle.sorted_file.specs.Versions.{same_bytes}
 use Rattle.sorted_file.specs.declared.outline.Outline.{Outline}
 use Rattle.sorted_file.specs.declared.outline.Stretch.{Stretch}
 use Rattle.sorted_file.specs.declared.spot.Spot.{Spot}
-use Rattle.sorted_file.specs.declared.version.Version.{Version}
 
 -- a stretch of some bytes is a part of an entry
 pub record IsSlice (bytes : List ℕ) (s : Stretch) (part : List ℕ) : Type 0 where

@@ -71,7 +71,7 @@ impl FileBuilder {
         ensures { self.new ≡ (if is_ok result then self.old ++ cell_of entry.entry ∷ [] else self.old) }
     {
         let begins_block = self.count % BLOCK_ENTRIES == 0;
-        let near = if begins_block { None } else { Some(self.last) };
+        let near = Version::Two.shares(self.count).then_some(self.last);
         let same = shared_parts(slices_of(near, self.bytes.bytes()), entry);
         write_entry(&mut self.entry, same, entry)?;
         let place = self.bytes.len();

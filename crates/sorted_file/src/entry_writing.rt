@@ -1,5 +1,7 @@
 //! How an entry of an image is written. Each function that appends may leave a part of it where memory is wanting.
 ghost use Rattle.std.specs.Prelude.{◌≡◌, ◌≤◌, ◌++◌, length, OnOk};
+ghost use Rattle.std.specs.Int.{cast_unsigned, w64};
+ghost use Rattle.byteorder.specs.Endian.{big_bytes};
 ghost use Rattle.tablet_model.specs.Limits.{max_part, max_value};
 ghost use Rattle.cell_key.specs.Views.{cell_of, key_of};
 ghost use Rattle.sorted_file.specs.Image.{flag_bytes, key_bytes, own_bytes, sharing_bytes, value_bytes};
@@ -21,6 +23,13 @@ fn append_part(bytes: &mut Vec<u8>, is_shared: bool, part: &[u8]) -> Result<(), 
     Ok(())
 }
 
+fn append_time(bytes: &mut Vec<u8>, time: i64) -> Result<(), NoMemory>
+    ensures { OnOk result (bytes.new.items ≡ bytes.old.items ++ big_bytes 8 (cast_unsigned w64 time)) }
+{
+    append_u64(bytes, time.cast_unsigned())?;
+    Ok(())
+}
+
 fn append_flag(bytes: &mut Vec<u8>, deleted: bool) -> Result<(), NoMemory>
     ensures { OnOk result (bytes.new.items ≡ bytes.old.items ++ flag_bytes deleted) }
 {
@@ -37,7 +46,6 @@ fn append_value(bytes: &mut Vec<u8>, value: &[u8]) -> Result<(), NoMemory>
     Ok(())
 }
 
-#[tactic(auto, unfolding(crate::specs::Image::key_bytes))]
 fn append_key(bytes: &mut Vec<u8>, same: u8, key: KeyRef<'_>) -> Result<(), NoMemory>
     ensures { OnOk result (bytes.new.items ≡ bytes.old.items ++ key_bytes same (key_of key.entry)) }
 {
@@ -45,8 +53,9 @@ fn append_key(bytes: &mut Vec<u8>, same: u8, key: KeyRef<'_>) -> Result<(), NoMe
     append_part(bytes, 1 < same, key.family)?;
     append_part(bytes, 2 < same, key.qualifier)?;
     append_part(bytes, 3 < same, key.visibility)?;
-    append_u64(bytes, key.time.cast_unsigned())?;
-    append_flag(bytes, key.deleted)
+    append_time(bytes, key.time)?;
+    append_flag(bytes, key.deleted)?;
+    Ok(())
 }
 
 /// Writes the bytes of an entry that shares so many parts, in an image of version 2, over what was there. It takes memory only

@@ -1,11 +1,11 @@
 //! How one goes from entry to entry in a file.
 ghost use Rattle.std.specs.Prelude.{◌≡◌, ◌<◌, ◌+◌, ◌*◌, Some, length, slice_get, take};
 ghost use Rattle.cell_key.specs.Views.{cell_of};
-ghost use Rattle.sorted_file.specs.Image.{block_places, entry_place, image_of, neighbour};
+ghost use Rattle.sorted_file.specs.Image.{block_places, entry_place, image_of, neighbour, shared_parts};
 ghost use Rattle.sorted_file.specs.Lists.{IsFileList, last_of};
 ghost use Rattle.sorted_file.specs.Outlines.{AreOutlined, IsSpot};
 
-use crate::entry_reading::take_entry;
+use crate::entry_reading::{Taken, take_entry};
 use crate::file::SortedFile;
 use crate::format::{BLOCK_ENTRIES, FIRST_PLACE};
 use crate::outline::{Outline, slices_of};
@@ -26,6 +26,7 @@ impl SortedFile {
     pub(crate) fn start(&self) -> Spot
         ensures index { result.index ≡ 0 }
         ensures spot { IsSpot self.now result }
+        ensures list { IsFileList self.now.cells }
     {
         if self.count == 0 {
             return Spot {
@@ -70,19 +71,37 @@ impl SortedFile {
         ensures index { result.index ≡ spot.index + 1 }
         ensures spot { IsSpot self.now result }
     {
+        let count = self.len();
         let index = spot.index + 1;
-        if index == self.count {
+        if index == count {
             return Spot {
                 index,
                 outline: Outline::none(),
             };
         }
-        let near = if self.version.shares(index) {
-            Some(spot.outline)
-        } else {
-            None
-        };
+        let near = self.version.shares(index).then_some(spot.outline);
         self.spot_at(index, spot.outline.value.end, near)
+    }
+
+    /// The entry at a place, as it is read, with so many before it. If it has a neighbour, the outline is that of the
+    /// neighbour.
+    fn taken_at(&self, index: usize, place: usize, near: Option<Outline>) -> Taken<'_>
+        requires within { index < length self.now.cells }
+        requires place { place ≡ entry_place self.now.version self.now.cells index }
+        requires near { AreOutlined (image_of self.now.version self.now.cells)
+            (neighbour self.now.version index (last_of (take index self.now.cells))) near }
+        ensures entry { slice_get self.now.cells index ≡ Some (cell_of result.entry) }
+        ensures same { result.same
+            ≡ shared_parts (neighbour self.now.version index (last_of (take index self.now.cells))) (cell_of result.entry) }
+        ensures next { result.rest.at ≡ entry_place self.now.version self.now.cells (index + 1) }
+    {
+        let bytes = self.bytes();
+        let (_, rest) = bytes.split_at(place);
+        let input = Input { at: place, rest };
+        let Ok(taken) = take_entry(self.version, slices_of(near, bytes), input) else {
+            unreachable!()
+        };
+        taken
     }
 
     /// Where the parts stand of the entry at a place, with so many before it. If it has a neighbour, the outline is that of
@@ -95,12 +114,7 @@ impl SortedFile {
         ensures index { result.index ≡ index }
         ensures spot { IsSpot self.now result }
     {
-        let bytes = self.bytes();
-        let (_, rest) = bytes.split_at(place);
-        let input = Input { at: place, rest };
-        let Ok(taken) = take_entry(self.version, slices_of(near, bytes), input) else {
-            unreachable!()
-        };
+        let taken = self.taken_at(index, place, near);
         let outline = Outline::behind(
             near.unwrap_or(Outline::none()),
             taken.same,

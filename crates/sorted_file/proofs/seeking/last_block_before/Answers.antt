@@ -8,6 +8,6 @@ pub loop-low-preserved : goal.loop-low-preserved
 loop-low-preserved c = record {
   few = c.loop-low.invariant.few;
   within = omega (arith, c.block-block.ensures.within);
-  place = c.block-block.ensures.place;
-  passed = none_behind (cut_of c.args.bound.now) c.args.file.now c.block-block.result.index (cell_of c.entry.result.0) c.start-last.ensures.list.ascends c.entry.ensures.entry (sym c.lies_behind.ensures ∙ c.if-lies_behind.false);
+  spot = c.block-block.ensures.spot;
+  passed = none_behind (cut_of c.args.bound.now) c.args.file.now.cells c.block-block.result.index (cell_of c.entry.result) c.start-last.ensures.list.ascends c.entry.ensures (sym c.lies_behind.ensures ∙ c.if-lies_behind.false);
 }
