@@ -73,7 +73,7 @@ impl Model for DoneJob {
       input = union_of (arc_value d.parts).items;
     } };
 
-    ghost invariant = { λ d. arc_value d.file ≡ entries_made record {
+    ghost invariant = { λ d. (arc_value d.file).cells ≡ entries_made record {
       config = arc_value d.config;
       usage = d.usage;
       input = union_of (arc_value d.parts).items;
@@ -122,7 +122,7 @@ impl Job {
 impl DoneJob {
     /// The file. It takes no memory.
     pub fn file(&self) -> &Arc<SortedFile>
-        ensures { arc_value result.now ≡ entries_made self.now }
+        ensures { (arc_value result.now).cells ≡ entries_made self.now }
     {
         &self.file
     }
@@ -137,7 +137,7 @@ fn compact_parts(
 ) -> Result<SortedFile, NoMemory>
     requires compacts { ¬ (usage ≡ Scan) }
     requires storable { AreStorable (rules_of config.now) (union_of parts.now) }
-    ensures { IfOk result (λ file. file ≡ usage_cells config.now usage (union_of parts.now)) }
+    ensures { IfOk result (λ file. file.cells ≡ usage_cells config.now usage (union_of parts.now)) }
 {
     // The configuration is accepted, so that its compactions keep what a store may have.
     prove!(config.count() <= 16);

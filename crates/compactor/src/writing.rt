@@ -7,6 +7,7 @@ ghost use Rattle.tablet_model.specs.Sorted.{Ascends};
 ghost use Rattle.iter_config.specs.Stages.{stages_of};
 ghost use Rattle.compactor.specs.FileValues.{HasShortValue};
 ghost use Rattle.iter_stack.specs.Usages.{usage_cells};
+ghost use Rattle.sorted_file.specs.declared.version.Version.TheVariants.{Two};
 
 use cell_key::{Bound, NoMemory, Range};
 use iter_config::Config;
@@ -23,7 +24,7 @@ pub const ALL_KEYS: Range<'static> = Range {
 
 /// The file of what the iterators of a configuration that run in a usage make of a source, which may have been sought or
 /// not. The configuration has to read each value of the source that is no marker's, and a file has to take each value of
-/// what is made. It takes memory.
+/// what is made. The image is one of version 2. It takes memory.
 pub fn compact<S: SortedSource>(
     alloc: Global,
     config: &Config,
@@ -33,7 +34,7 @@ pub fn compact<S: SortedSource>(
     requires valid { S.valid source }
     requires read { AreUnmarkedRead (stages_of config.now) (S.cells source) }
     requires short { AllByRecursion HasShortValue (usage_cells config.now usage (S.cells source)) }
-    ensures { IfOk result (λ file. file ≡ usage_cells config.now usage (S.cells source)) }
+    ensures { IfOk result (λ file. file ≡ record { version = Two; cells = usage_cells config.now usage (S.cells source) }) }
 {
     let stack = build(alloc, config, usage, source)?;
     file_of(alloc, stack)
@@ -43,7 +44,7 @@ pub fn compact<S: SortedSource>(
 fn file_of<S: SortedSource>(alloc: Global, source: S) -> Result<SortedFile, NoMemory>
     requires valid { S.valid source }
     requires short { AllByRecursion HasShortValue (S.cells source) }
-    ensures { IfOk result (λ file. file ≡ S.cells source) }
+    ensures { IfOk result (λ file. file ≡ record { version = Two; cells = S.cells source }) }
 {
     let mut source = source;
     let mut builder = FileBuilder::new(alloc)?;

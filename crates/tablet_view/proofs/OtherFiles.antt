@@ -8,9 +8,9 @@ use Rattle.tablet_view.specs.FileParts.{file_of}
 use Rattle.tablet_view.specs.declared.files.StoredFile.{StoredFile}
 
 -- a file of the model has the entries of the stored one
-pub file_cells : (files : List StoredFile) → map (λ f. arc_value f.file) files ≡ map (λ f. f.cells) (map file_of files)
+pub file_cells : (files : List StoredFile) → map (λ (f : StoredFile). (arc_value f.file).cells) files ≡ map (λ f. f.cells) (map file_of files)
 file_cells [] = refl
-file_cells (f ∷ fs) = ap (λ l. arc_value f.file ∷ l) (file_cells fs)
+file_cells (f ∷ fs) = ap (λ l. (arc_value f.file).cells ∷ l) (file_cells fs)
 
 -- of no numbers, none is named
 pub none_named : (files : List File) → files_without [] files ≡ files

@@ -5,4 +5,4 @@ use Rattle.tablet_view.specs.declared.files.StoredFile.{StoredFile}
 
 -- its number, and the entries of what it shares
 abbrev pub file_of : StoredFile → File
-file_of f = record { id = f.id; cells = arc_value f.file }
+file_of f = record { id = f.id; cells = (arc_value f.file).cells }

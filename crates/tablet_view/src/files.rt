@@ -65,7 +65,7 @@ impl Files {
         file: &Arc<SortedFile>,
     ) -> Result<Files, NoMemory>
         ensures { IfOk result (λ files. files
-            ≡ files_without ids.now self.now ++ record { id = id; cells = arc_value file.now } ∷ []) }
+            ≡ files_without ids.now self.now ++ record { id = id; cells = (arc_value file.now).cells } ∷ []) }
     {
         let mut files = other_files(alloc, &self.files, ids)?;
         let file = Arc::try_clone(file)?;
