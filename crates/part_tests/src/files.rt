@@ -11,12 +11,19 @@ use sorted_file::{FileBuilder, FileCursor, ImageCause, OpenError, SortedFile};
 use std::alloc::Global;
 use std::sync::Arc;
 
-/// The image of no entries.
+/// The image of no entries, in version 1.
 const NONE: [u8; 19] = *b"ITSF\x01\0\0\0\0\0\0\0\0\0\0FSTI";
 
-/// The image of the entry `r1 a:x: @1 =1`.
+/// The image of no entries, in version 2.
+const NEW_NONE: [u8; 18] = *b"ITSF\x02\xff\0\0\0\0\0\0\0\0FSTI";
+
+/// The image of the entry `r1 a:x: @1 =1`, in version 1.
 const ONE: [u8; 53] =
     *b"ITSF\x01\0\x02r1\0\x01a\0\x01x\0\0\0\0\0\0\0\0\0\x01\0\0\0\0\x011\0\0\0\0\0\0\0\0\0\x05\0\0\0\0\0\0\0\x01FSTI";
+
+/// The image of that entry, in version 2.
+const NEW_ONE: [u8; 53] =
+    *b"ITSF\x02\0\0\x02r1\0\x01a\0\x01x\0\0\0\0\0\0\0\0\0\x01\0\0\0\0\x011\xff\0\0\0\0\0\0\0\x05\0\0\0\0\0\0\0\x01FSTI";
 
 fn first() -> KeyRef<'static> {
     key(b"r1", b"a", b"x", 1)
@@ -69,16 +76,33 @@ fn file_of(alloc: Global, entries: &[EntryRef<'_>]) -> Result<SortedFile, NoMemo
     builder.finish()
 }
 
-/// Whether bytes are opened, as a file of so many entries.
-fn is_opened(alloc: Global, image: &[u8], count: u64) -> Result<bool, OpenError> {
+/// Whether bytes are opened, as a file of a version and of so many entries.
+fn is_opened(alloc: Global, image: &[u8], version: u8, count: u64) -> Result<bool, OpenError> {
     let file = SortedFile::open(alloc, ByteText::of(alloc, image)?)?;
-    Ok(file.count() == count && file.bytes() == image)
+    Ok(file.version() == version && file.count() == count && file.bytes() == image)
 }
 
 #[test]
 fn images_are_opened(rt: HostRuntime) -> Result<(), OpenError> {
-    assert!(rt; is_opened(rt.alloc(), &NONE, 0)?);
-    assert!(rt; is_opened(rt.alloc(), &ONE, 1)?);
+    assert!(rt; is_opened(rt.alloc(), &NONE, 1, 0)?);
+    assert!(rt; is_opened(rt.alloc(), &ONE, 1, 1)?);
+    assert!(rt; is_opened(rt.alloc(), &NEW_NONE, 2, 0)?);
+    assert!(rt; is_opened(rt.alloc(), &NEW_ONE, 2, 1)?);
+    Ok(())
+}
+
+/// Whether an image is upgraded to another one.
+fn is_upgraded(alloc: Global, image: &[u8], newest: &[u8]) -> Result<bool, OpenError> {
+    let file = SortedFile::open(alloc, ByteText::of(alloc, image)?)?;
+    let upgraded = file.upgrade(alloc)?;
+    Ok(upgraded.version() == 2 && upgraded.bytes() == newest)
+}
+
+#[test]
+fn images_are_upgraded(rt: HostRuntime) -> Result<(), OpenError> {
+    assert!(rt; is_upgraded(rt.alloc(), &NONE, &NEW_NONE)?);
+    assert!(rt; is_upgraded(rt.alloc(), &ONE, &NEW_ONE)?);
+    assert!(rt; is_upgraded(rt.alloc(), &NEW_ONE, &NEW_ONE)?);
     Ok(())
 }
 
@@ -119,6 +143,35 @@ fn damaged_images_are_refused(rt: HostRuntime) -> Result<(), NoMemory> {
     ];
     for (i, (place, byte, at, cause)) in damages.iter().enumerate() {
         assert!(rt; is_damaged(rt.alloc(), *place, *byte, *at, *cause)?, "{i}");
+    }
+    Ok(())
+}
+
+/// Whether the image of one entry in version 2 is refused with another byte at a place.
+fn is_new_damaged(
+    alloc: Global,
+    place: usize,
+    byte: u8,
+    at: u64,
+    cause: ImageCause,
+) -> Result<bool, NoMemory> {
+    let mut image = NEW_ONE;
+    image[place % 53] = byte;
+    is_refused(alloc, &image, at, cause)
+}
+
+#[test]
+fn damaged_numbers_of_shared_parts_are_refused(rt: HostRuntime) -> Result<(), NoMemory> {
+    let damages = [
+        (4, 3, 4, ImageCause::Version),
+        (5, 1, 5, ImageCause::Bound),
+        (5, 5, 5, ImageCause::Bound),
+        (5, 254, 5, ImageCause::Bound),
+        (5, 255, 6, ImageCause::Tail),
+        (32, 5, 32, ImageCause::Bound),
+    ];
+    for (i, (place, byte, at, cause)) in damages.iter().enumerate() {
+        assert!(rt; is_new_damaged(rt.alloc(), *place, *byte, *at, *cause)?, "{i}");
     }
     Ok(())
 }
@@ -179,7 +232,7 @@ fn cursor(alloc: Global) -> Result<FileCursor, NoMemory> {
 
 #[test]
 fn a_file_is_built(rt: HostRuntime) -> Result<(), NoMemory> {
-    assert!(rt; is_image(rt.alloc(), &two_entries()[..1], &ONE)?);
+    assert!(rt; is_image(rt.alloc(), &two_entries()[..1], &NEW_ONE)?);
     Ok(())
 }
 
@@ -218,14 +271,14 @@ fn has_size(alloc: Global, count: usize, size: usize) -> Result<bool, OpenError>
     Ok(
         file.count() == count
             && file.bytes().len() == size
-            && is_opened(alloc, file.bytes(), count)?,
+            && is_opened(alloc, file.bytes(), 2, count)?,
     )
 }
 
 #[test]
 fn blocks_have_64_entries(rt: HostRuntime) -> Result<(), OpenError> {
-    // An entry has 26 bytes, an index field 8, and all else 19.
-    assert!(rt; has_size(rt.alloc(), 64, 19 + 8 + 64 * 26)?);
-    assert!(rt; has_size(rt.alloc(), 65, 19 + 2 * 8 + 65 * 26)?);
+    // A block's first entry has 27 bytes, each other one, which shares all four parts, 15, an index field 8, and all else 18.
+    assert!(rt; has_size(rt.alloc(), 64, 18 + 8 + 27 + 63 * 15)?);
+    assert!(rt; has_size(rt.alloc(), 65, 18 + 2 * 8 + 2 * 27 + 63 * 15)?);
     Ok(())
 }
