@@ -6,9 +6,9 @@ use Rattle.tablet_cli.specs.declared.status.Status.{Status}
 use Rattle.tablet_cli.specs.declared.status.Status.TheVariants.{Done, Usage, BadConfig, ReadFault, WriteFault, NoMemory, TooLong, BadImage}
 use Rattle.tablet_replay.specs.Packing.{pack_text}
 use Rattle.tablet_replay.specs.Replay.{is_refused, replay_text}
-use Rattle.tablet_replay.specs.Showing.{is_no_image, show_text}
+use Rattle.tablet_replay.specs.Showing.{is_no_image, show_text, upgrade_bytes}
 use Rattle.tablet_cli.specs.declared.command_word.Command.{Command}
-use Rattle.tablet_cli.specs.declared.command_word.Command.TheVariants.{Replay, Pack, Show}
+use Rattle.tablet_cli.specs.declared.command_word.Command.TheVariants.{Replay, Pack, Show, Upgrade}
 use Rattle.tablet_cli.specs.Words.{usage_line}
 
 -- what a source or a sink tells of its bytes, and its count of faults, before a call and after it
@@ -65,12 +65,14 @@ abbrev pub command_text : Command → List ℕ → List ℕ
 command_text Replay bytes = replay_text bytes
 command_text Pack bytes = pack_text bytes
 command_text Show bytes = show_text bytes
+command_text Upgrade bytes = upgrade_bytes bytes
 
 -- whether a command refuses an input: its configuration, or that it is no image
 abbrev pub refuses : Command → List ℕ → Bool
 refuses Replay bytes = is_refused bytes
 refuses Pack bytes = is_refused bytes
 refuses Show bytes = is_no_image bytes
+refuses Upgrade bytes = is_no_image bytes
 
 -- how a command ends that refuses its input, or doesn't
 abbrev pub end_of : Command → Bool → Status
@@ -78,6 +80,7 @@ end_of command false = Done
 end_of Replay true = BadConfig
 end_of Pack true = BadConfig
 end_of Show true = BadImage
+end_of Upgrade true = BadImage
 
 -- how it ends, where nothing comes between
 abbrev pub command_end : Command → List ℕ → Status

@@ -2,7 +2,7 @@
 ghost use Rattle.std.specs.Prelude.{◌≡◌};
 ghost use Rattle.tablet_cli.specs.Words.{command_of};
 ghost use Rattle.tablet_cli.specs.Outcome.{IsComplete, IsRunComplete, Performs, Runs, port};
-ghost use Rattle.tablet_cli.specs.declared.command_word.Command.TheVariants.{Replay, Pack, Show};
+ghost use Rattle.tablet_cli.specs.declared.command_word.Command.TheVariants.{Replay, Pack, Show, Upgrade};
 
 use crate::command_word::{Command, command_of};
 use crate::reply::{end_of, reply_to};
@@ -16,7 +16,7 @@ use tablet_replay::ReplyError;
 /// How many bytes an input has at the most.
 pub const MAX_INPUT: usize = 8_388_608;
 
-const USAGE: &[u8] = b"usage: replay | live SCANNERS CHUNK BATCH | pack | show | gen START SIZE\n";
+const USAGE: &[u8] = b"usage: replay | live SCANNERS CHUNK BATCH | pack | show | gen START SIZE | upgrade\n";
 
 /// Reads an input to its end, and writes what a command makes of it.
 fn perform<I: Source, O: Sink>(
@@ -70,6 +70,14 @@ pub fn show<I: Source, O: Sink>(alloc: Global, input: &mut I, output: &mut O) ->
     ensures complete { IsComplete Show (port I.left I.faults input.old input.new) (port O.taken O.faults output.old output.new) result }
 {
     perform(Command::Show, alloc, input, output)
+}
+
+/// Reads an image to its end, and writes the image of version 2 of the same entries, or why it is none. It ends as [`show`] does.
+pub fn upgrade<I: Source, O: Sink>(alloc: Global, input: &mut I, output: &mut O) -> Status
+    ensures outcome { Performs Upgrade (port I.left I.faults input.old input.new) (port O.taken O.faults output.old output.new) result }
+    ensures complete { IsComplete Upgrade (port I.left I.faults input.old input.new) (port O.taken O.faults output.old output.new) result }
+{
+    perform(Command::Upgrade, alloc, input, output)
 }
 
 /// Runs the command that the words name.

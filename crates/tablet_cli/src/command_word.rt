@@ -11,6 +11,8 @@ pub enum Command {
     Pack,
     /// Writes the entries of an image.
     Show,
+    /// Writes the image of version 2 of the entries of an image.
+    Upgrade,
 }
 
 fn command_of_word(word: &str) -> Option<Command>
@@ -20,6 +22,7 @@ fn command_of_word(word: &str) -> Option<Command>
         "replay" => Some(Command::Replay),
         "pack" => Some(Command::Pack),
         "show" => Some(Command::Show),
+        "upgrade" => Some(Command::Upgrade),
         _ => None,
     }
 }

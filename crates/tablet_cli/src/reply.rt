@@ -8,7 +8,7 @@ use crate::status::Status;
 use cell_key::ByteText;
 use std::alloc::Global;
 use tablet_io::Sink;
-use tablet_replay::{Outcome, ReplyError, pack_to, replay_to, show_to};
+use tablet_replay::{Outcome, ReplyError, pack_to, replay_to, show_to, upgrade_to};
 
 /// Writes the reply of a command to an input.
 pub fn reply_to<O: Sink>(
@@ -25,6 +25,7 @@ pub fn reply_to<O: Sink>(
         Command::Replay => replay_to(alloc, input.bytes(), output),
         Command::Pack => pack_to(alloc, input.bytes(), output),
         Command::Show => show_to(alloc, input, output),
+        Command::Upgrade => upgrade_to(alloc, input, output),
     }
 }
 
@@ -35,6 +36,6 @@ pub fn end_of(command: Command, outcome: Outcome) -> Status
     match (outcome, command) {
         (Outcome::Answered, _) => Status::Done,
         (Outcome::Refused, Command::Replay | Command::Pack) => Status::BadConfig,
-        (Outcome::Refused, Command::Show) => Status::BadImage,
+        (Outcome::Refused, Command::Show | Command::Upgrade) => Status::BadImage,
     }
 }

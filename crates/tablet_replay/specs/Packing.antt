@@ -16,6 +16,7 @@ use Rattle.script_text.specs.declared.line.Line.TheVariants.{Step}
 use Rattle.tablet_steps.specs.declared.event.Event.TheVariants.{Apply}
 use Rattle.tablet_view.specs.Snapshot.{Snapshot}
 use Rattle.sorted_file.specs.Image.{image_of}
+use Rattle.sorted_file.specs.declared.version.Version.TheVariants.{Two}
 use Rattle.tablet_replay.specs.Refusals.{config_line}
 use Rattle.tablet_replay.specs.Replay.{input_config}
 
@@ -40,7 +41,7 @@ pack_entries config h = stages (rules_of config).base (live (history_entries h))
 -- what is written under a configuration for the lines of a script, or under none
 abbrev pub pack_under : Result (Settings) Fault → List (List ℕ) → List ℕ
 pack_under (Err f) lines = config_line f
-pack_under (Ok config) lines = image_of (pack_entries config (history_behind config [] lines))
+pack_under (Ok config) lines = image_of Two (pack_entries config (history_behind config [] lines))
 
 -- what `pack` writes for an input
 unfoldable pub pack_text : List ℕ → List ℕ

@@ -1,4 +1,5 @@
-//! What the commands write for an input: the answers to a script, the image that it packs, and the entries of an image.
+//! What the commands write for an input: the answers to a script, the image that it packs, the entries of an image, and
+//! its image of the newest version.
 #![tactic(auto)]
 
 mod headline;
@@ -16,4 +17,4 @@ mod tablet;
 
 pub use headline::{scans_are_whole, sessions_walk, steps_change_no_answer};
 pub use outcome::{Outcome, ReplyError};
-pub use reply::{pack_to, replay_to, show_to};
+pub use reply::{pack_to, replay_to, show_to, upgrade_to};

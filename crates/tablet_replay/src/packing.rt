@@ -3,6 +3,7 @@ ghost use Rattle.std.specs.Prelude.{◌≡◌, ◌+◌, ◌<◌, ◌≤◌, ◌^
 ghost use Rattle.cell_key.specs.Mutations.{row_change_of};
 ghost use Rattle.script_text.specs.Grammar.{line_of};
 ghost use Rattle.script_text.specs.Lines.{lines_of};
+ghost use Rattle.sorted_file.specs.declared.version.Version.TheVariants.{Two};
 ghost use Rattle.tablet_view.specs.Snapshot.{IsStanding};
 ghost use Rattle.tablet_replay.specs.Packing.{IsInMemory, history_after, history_behind, history_with, pack_entries};
 
@@ -19,7 +20,10 @@ use tablet_view::View;
 
 /// The file of what the iterators of compactions make of the mutations of a script.
 pub fn file_of_script(alloc: Global, config: Config, script: &[u8]) -> Result<SortedFile, NoMemory>
-    ensures { IfOk result (λ file. file ≡ pack_entries config (history_behind config [] (lines_of script.now))) }
+    ensures { IfOk result (λ file. file ≡ record {
+      version = Two;
+      cells = pack_entries config (history_behind config [] (lines_of script.now));
+    }) }
 {
     let core = loaded(alloc, config, script)?;
     packed(alloc, core.view())
@@ -74,7 +78,7 @@ fn take_mutation(alloc: Global, core: &mut Core, mutation: Mutation) -> Result<(
 fn packed(alloc: Global, view: &View) -> Result<SortedFile, NoMemory>
     requires stands { IsStanding view.now }
     requires memory { IsInMemory view.now }
-    ensures { IfOk result (λ file. file ≡ pack_entries view.now.config view.now.log) }
+    ensures { IfOk result (λ file. file ≡ record { version = Two; cells = pack_entries view.now.config view.now.log }) }
 {
     let source = view.source(alloc, &Families::all())?;
     compact(alloc, view.config(), Usage::Pack, source)

@@ -58,6 +58,7 @@ fn cause_word(cause: ImageCause) -> &'static [u8]
         ImageCause::Magic => b"magic",
         ImageCause::Version => b"version",
         ImageCause::Bound => b"bound",
+        ImageCause::Shared => b"shared",
         ImageCause::Order => b"order",
         ImageCause::Index => b"index",
         ImageCause::Tail => b"tail",

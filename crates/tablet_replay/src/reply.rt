@@ -3,7 +3,7 @@ ghost use Rattle.std.specs.Prelude.{◌≡◌, IfOk};
 ghost use Rattle.tablet_replay.specs.Packing.{pack_text};
 ghost use Rattle.tablet_replay.specs.Replay.{is_refused, replay_text};
 ghost use Rattle.tablet_replay.specs.Replies.{HasCause, Replies, is_refusal};
-ghost use Rattle.tablet_replay.specs.Showing.{is_no_image, show_text};
+ghost use Rattle.tablet_replay.specs.Showing.{is_no_image, show_text, upgrade_bytes};
 
 use crate::outcome::{Outcome, ReplyError};
 use crate::packing::file_of_script;
@@ -103,6 +103,33 @@ pub fn show_to<O: Sink>(
             let file = Arc::new(alloc, file)?;
             show_file(alloc, file, output)?;
             Ok(Outcome::Answered)
+        }
+        Err(OpenError::Image { at, cause }) => {
+            let why = image_line(alloc, cause, at)?;
+            write_bytes(why.bytes(), Outcome::Refused, output)
+        }
+        Err(OpenError::NoMemory) => Err(ReplyError::NoMemory),
+    }
+}
+
+/// Writes the image of version 2 of the same entries, or why the input is no image. An image of version 2 stays as it is. It takes
+/// memory for the new image.
+///
+/// After an error a prefix of the bytes was taken, and `Write` comes only where the sink's count of faults rose in this call.
+#[tactic(auto, unfolding(crate::specs::Showing::upgrade_bytes))]
+pub fn upgrade_to<O: Sink>(
+    alloc: Global,
+    input: ByteText,
+    output: &mut O,
+) -> Result<Outcome, ReplyError>
+    ensures text { Replies (upgrade_bytes input) (O.taken output.old) (O.taken output.new) result }
+    ensures refused { IfOk result (λ outcome. is_refusal outcome ≡ is_no_image input) }
+    ensures cause { HasCause (O.faults output.old) (O.faults output.new) result }
+{
+    match SortedFile::open(alloc, input) {
+        Ok(file) => {
+            let newest = file.upgrade(alloc)?;
+            write_bytes(newest.bytes(), Outcome::Answered, output)
         }
         Err(OpenError::Image { at, cause }) => {
             let why = image_line(alloc, cause, at)?;

@@ -10,7 +10,7 @@ pub returns-in_err-send_cells-clause-text : goal.returns-in_err-send_cells-claus
 returns-in_err-send_cells-clause-text g c =
     let a = g.O.Sink.taken c.args.output.now in
     let b = g.O.Sink.taken c.send_cells.new.output in
-    let list = arc_value c.args.file in
+    let list = (arc_value c.args.file).cells in
     let count = count_line (length list) in
     let r = c.from_residual-in_err-send_cells in
     reply_failed (entry_lines list ++ count) [] a b r.result r.ensures.0
@@ -22,7 +22,7 @@ pub returns-in_err-append_count-clause-text : goal.returns-in_err-append_count-c
 returns-in_err-append_count-clause-text g c =
     let a = g.O.Sink.taken c.args.output.now in
     let b = g.O.Sink.taken c.send_cells.new.output in
-    let list = arc_value c.args.file in
+    let list = (arc_value c.args.file).cells in
     let count = count_line (length list) in
     let r = c.from_residual-in_err-append_count in
     reply_failed (entry_lines list ++ count) [] a b r.result r.ensures.0
@@ -34,9 +34,9 @@ pub returns-clause-text : goal.returns-clause-text
 returns-clause-text g c =
     let a = g.O.Sink.taken c.args.output.now in
     let b = g.O.Sink.taken c.send_cells.new.output in
-    let list = arc_value c.args.file in
+    let list = (arc_value c.args.file).cells in
     let count = count_line (length list) in
-    let is = c.in_ok-append_count.ensures ∙ ap (λ n. c.send_cells.new.text ++ count_line n) (c.count.ensures ∙ ap length c.deref.ensures) in
+    let is = c.in_ok-append_count.ensures ∙ ap (λ n. c.send_cells.new.text ++ count_line n) (c.count.ensures ∙ ap (λ file. length file.cells) c.deref.ensures) in
     reply_ended (entry_lines list ++ count) c.append_count.new.text a b (g.O.Sink.taken c.send_last.new.output) c.send_last.result
     (subst (IsSent (entry_lines list ++ count) a b) (sym is)
     (sent_more (entry_lines list) c.send_cells.new.text count a b
