@@ -11,7 +11,7 @@ use Rattle.byte_fields.proofs.Fields.{bind_ok, ok_is, told_ok, IsBytes, Takes, T
 use Rattle.sorted_file.specs.Image.{own_bytes, flag_bytes, value_bytes, neighbour, shared_parts, key_bytes, sharing_bytes, entry_bytes}
 use Rattle.sorted_file.specs.Versions.{same_bytes}
 use Rattle.sorted_file.specs.Lists.{longest_value, IsFileEntry}
-use Rattle.sorted_file.specs.Reading.{fault, uncut, most_shared, same_at, sharer, shared_or, row_at, part_at, flag_at, value_at, key_at, entry_at}
+use Rattle.sorted_file.specs.Reading.{fault, whole_field, most_shared, same_at, sharer, shared_or, row_at, part_at, flag_at, value_at, key_at, entry_at}
 use Rattle.sorted_file.specs.declared.fault.Fault.{Fault}
 use Rattle.sorted_file.specs.declared.fault.ImageCause.TheVariants.{Length}
 use Rattle.sorted_file.specs.declared.version.Version.{Version}
@@ -53,7 +53,7 @@ abbrev after_time : List ℕ → List ℕ → List ℕ → List ℕ → ℕ → 
 after_time row family qualifier visibility time u = flag_at u >>= λ deleted. Ok (made row family qualifier visibility time deleted.0, deleted.1)
 
 abbrev after_visibility : List ℕ → List ℕ → List ℕ → List ℕ → Unread → Result (CellKey × Unread) Fault
-after_visibility row family qualifier visibility u = uncut (number_at 8 u) >>= λ time. after_time row family qualifier visibility time.0 time.1
+after_visibility row family qualifier visibility u = whole_field (number_at 8 u) >>= λ time. after_time row family qualifier visibility time.0 time.1
 
 abbrev after_qualifier : ℕ → Option Cell → List ℕ → List ℕ → List ℕ → Unread → Result (CellKey × Unread) Fault
 after_qualifier same near row family qualifier u = visibility_in same near u >>= λ visibility. after_visibility row family qualifier visibility.0 visibility.1
@@ -89,7 +89,7 @@ parts_again same near k n bounds below shared =
     let time : List ℕ = big_bytes 8 n in
     let flag : List ℕ = flag_bytes k.deleted in
     let from_flag = with_flag k.row k.family k.qualifier k.visibility n k.deleted in
-    let from_time = Again-then (λ u. uncut (number_at 8 u)) (after_time k.row k.family k.qualifier k.visibility) time flag n key (told_again (fault Length) (number_at 8) time n (number_again 8 (2 ^ 64) wide8 n below)) from_flag in
+    let from_time = Again-then (λ u. whole_field (number_at 8 u)) (after_time k.row k.family k.qualifier k.visibility) time flag n key (told_again (fault Length) (number_at 8) time n (number_again 8 (2 ^ 64) wide8 n below)) from_flag in
     let visibility_is = shared_again 3 same near (λ k. k.visibility) part_at k shared.visibility (part_again k.visibility bounds.4) in
     let from_visibility = Again-then (visibility_in same near) (after_visibility k.row k.family k.qualifier) visibility (time ++ flag) k.visibility key visibility_is from_time in
     let qualifier_is = shared_again 2 same near (λ k. k.qualifier) part_at k shared.qualifier (part_again k.qualifier bounds.3) in
@@ -128,7 +128,7 @@ take_time : (same : ℕ) (u : Unread) (row family qualifier visibility : List �
     → after_visibility row family qualifier visibility v ≡ Ok x → IsRead same u x
 take_time same u row family qualifier visibility v x t bounds e =
     let parts : List ℕ = row_of same row ++ family_of same family ++ qualifier_of same qualifier ++ visibility_of same visibility in
-    let b = bind_ok (uncut (number_at 8 v)) (λ time. after_time row family qualifier visibility time.0 time.1) x e in
+    let b = bind_ok (whole_field (number_at 8 v)) (λ time. after_time row family qualifier visibility time.0 time.1) x e in
     let n = number_take 8 (2 ^ 64) wide8 v b.0 t.rest_fits (told_ok (fault Length) (number_at 8 v) b.0 b.1) in
     take_flag same u row family qualifier visibility b.0.0 b.0.1 x (Takes-then u parts v (big_bytes 8 b.0.0) b.0.1 t n.0) bounds n.1 b.2
 

@@ -14,7 +14,7 @@ use Rattle.iter_contract.proofs.Following.{Follows}
 use Rattle.sorted_file.specs.Image.{part_bytes, own_bytes, flag_bytes, value_bytes, key_bytes, neighbour, shared_parts, sharing_bytes, entry_bytes, entries_from, index_bytes}
 use Rattle.sorted_file.specs.Versions.{end_mark, same_bytes}
 use Rattle.sorted_file.specs.Lists.{IsFileEntry}
-use Rattle.sorted_file.specs.Reading.{fault, uncut, expected_at, most_shared, end_at, entry_at, next_entry_at, entries_at, index_at}
+use Rattle.sorted_file.specs.Reading.{fault, whole_field, expected_at, most_shared, end_at, entry_at, next_entry_at, entries_at, index_at}
 use Rattle.sorted_file.specs.declared.fault.Fault.{Fault}
 use Rattle.sorted_file.specs.declared.fault.ImageCause.TheVariants.{Order, Shared, Index}
 use Rattle.sorted_file.specs.declared.version.Version.{Version}
@@ -69,8 +69,8 @@ not_end One n before e at rest is =
     let behind : List ℕ = e.key.row ++ (f ++ (q ++ (v ++ (t ++ (d ++ (w ++ rest)))))) in
     let row : number_at 2 (spot at (size ++ behind)) ≡ Ok (length e.key.row, spot (at + 2) behind) = number_again 2 (2 ^ 16) wide2 (length e.key.row) (omega (arith, is.0.0.1)) at behind in (
       spot (at + 2) behind,
-      ap (λ (bytes : List ℕ). uncut (number_at 2 (spot at bytes)) >>= λ row. Ok (eqb row.0 0, row.1)) (front size e.key.row f q v t d w rest)
-          ∙ ap (λ (r : Result (ℕ × Unread) ℕ). uncut r >>= λ row. Ok (eqb row.0 0, row.1)) row ∙ ap (λ (b : Bool). Ok (b, spot (at + 2) behind)) (row_some (length e.key.row) is.0.0.0),
+      ap (λ (bytes : List ℕ). whole_field (number_at 2 (spot at bytes)) >>= λ row. Ok (eqb row.0 0, row.1)) (front size e.key.row f q v t d w rest)
+          ∙ ap (λ (r : Result (ℕ × Unread) ℕ). whole_field r >>= λ row. Ok (eqb row.0 0, row.1)) row ∙ ap (λ (b : Bool). Ok (b, spot (at + 2) behind)) (row_some (length e.key.row) is.0.0.0),
     )
 not_end Two n before e at rest is =
     let near = neighbour Two n before in
@@ -78,7 +78,7 @@ not_end Two n before e at rest is =
     let behind : List ℕ = (key_bytes same e.key ++ value_bytes e.value) ++ rest in
     let few : same ≤ 4 = omega (arith, shared_few near e, most_four near) in (
       spot (at + 1) behind,
-      ap (λ (r : Result (List ℕ × Unread) ℕ). uncut r >>= λ same. Ok (eqb (get_or same.0 0 0) 255, same.1)) (bytes_again (same ∷ []) 1 refl at behind)
+      ap (λ (r : Result (List ℕ × Unread) ℕ). whole_field r >>= λ same. Ok (eqb (get_or same.0 0 0) 255, same.1)) (bytes_again (same ∷ []) 1 refl at behind)
           ∙ ap (λ (b : Bool). Ok (b, spot (at + 1) behind)) (no_mark same few),
     )
 

@@ -10,7 +10,7 @@ use Rattle.cell_key.specs.Views.{cell_of}
 use Rattle.cell_key.specs.declared.key_ref.EntryRef.{EntryRef}
 use Rattle.sorted_file.specs.Image.{neighbour, entry_bytes, block_start, blocks_from}
 use Rattle.sorted_file.specs.Reading.{expected_at, end_at, next_entry_at, entries_at, index_at}
-use Rattle.sorted_file.specs.Answers.{counted}
+use Rattle.sorted_file.specs.Answers.{count_entries}
 use Rattle.sorted_file.specs.declared.fault.Fault.{Fault}
 use Rattle.sorted_file.specs.declared.fault.ImageCause.TheVariants.{Index}
 use Rattle.sorted_file.specs.declared.version.Version.{Version}
@@ -42,12 +42,12 @@ abbrev pub with_front : Version → List ℕ → ℕ → Option Cell → ℕ →
 with_front v blocks count before at entries = entries >>= λ x. Ok (blocks ++ blocks_from v count at before x.0, count + length x.0, x.1)
 
 -- before any was read
-pub nothing_read : (v : Version) (blocks : List ℕ) (at most : ℕ) (u : Unread) → blocks ≡ [] → with_front v blocks 0 None at (entries_at v (most - 0) 0 None u) ≡ counted v at (entries_at v most 0 None u)
+pub nothing_read : (v : Version) (blocks : List ℕ) (at most : ℕ) (u : Unread) → blocks ≡ [] → with_front v blocks 0 None at (entries_at v (most - 0) 0 None u) ≡ count_entries v at (entries_at v most 0 None u)
 nothing_read v blocks at most u none =
     let all : most - 0 ≡ most = omega arith in
     ap (λ (b : List ℕ). with_front v b 0 None at (entries_at v (most - 0) 0 None u)) none ∙ ap (λ (m : ℕ). with_front v [] 0 None at (entries_at v m 0 None u)) all ∙ go (entries_at v most 0 None u)
   where
-    go : (r : Result (List Cell × Unread) Fault) → with_front v [] 0 None at r ≡ counted v at r
+    go : (r : Result (List Cell × Unread) Fault) → with_front v [] 0 None at r ≡ count_entries v at r
     go (Ok x) = ap (λ (n : ℕ). Ok (blocks_from v 0 at None x.0, n, x.1)) (zero-add (length x.0))
     go (Err f) = refl
 

@@ -8,7 +8,7 @@ use Rattle.byte_fields.proofs.Fields.{bind_ok, ok_is, IsBytes, spot}
 use Rattle.sorted_file.specs.Contents.{FileContents}
 use Rattle.sorted_file.specs.Image.{magic, version_bytes, blocks_from, block_places, image_of}
 use Rattle.sorted_file.specs.Lists.{IsFileList}
-use Rattle.sorted_file.specs.Answers.{Opens, shape_of, counted, contents_in}
+use Rattle.sorted_file.specs.Answers.{Opens, shape_of, count_entries, contents_in}
 use Rattle.sorted_file.specs.Reading.{head_at, entries_at, footer_at, image_reading}
 use Rattle.sorted_file.specs.declared.fault.Fault.{Fault}
 use Rattle.sorted_file.specs.declared.fault.OpenError.{OpenError}
@@ -38,7 +38,7 @@ head_is bytes v u fits e =
 
 -- ---- the body
 
-uncounted : (v : Version) (at : ℕ) (read : Result (List Cell × Unread) Fault) (f : Fault) → counted v at read ≡ Err f → read ≡ Err f
+uncounted : (v : Version) (at : ℕ) (read : Result (List Cell × Unread) Fault) (f : Fault) → count_entries v at read ≡ Err f → read ≡ Err f
 uncounted v at (Ok x) f e = absurd cc
 uncounted v at (Err g) f e = cc
 
@@ -47,7 +47,7 @@ unfolding image_reading
 body_fault bytes v u f head e = rw (head, e) refl
 
 pub body_refused : {X Y : Type 0} (view : X → List ℕ × ℕ × Unread) (shape : Y → Version × ℕ) (bytes : List ℕ) (v : Version) (u : Unread) (error : OpenError) → head_at (spot 0 bytes) ≡ Ok (v, u)
-    → Opens view (Err error) (counted v u.at (entries_at v (length bytes) 0 None u)) → Opens shape (Err error) (shape_of (image_reading bytes))
+    → Opens view (Err error) (count_entries v u.at (entries_at v (length bytes) 0 None u)) → Opens shape (Err error) (shape_of (image_reading bytes))
 body_refused view shape bytes v u (Image at cause) head h = body_fault bytes v u (record { at = at; cause = cause }) head (uncounted v u.at (entries_at v (length bytes) 0 None u) (record { at = at; cause = cause }) h)
 body_refused view shape bytes v u NoMemory head h = h
 
@@ -67,7 +67,7 @@ body_is bytes v u x blocks count w place read e = record {
   count_is = ap (λ (t : List ℕ × ℕ × Unread). t.1) e;
 }
 
-pub body_found : (bytes : List ℕ) (v : Version) (u : Unread) (blocks : List ℕ) (count : ℕ) (w : Unread) → u.at ≡ 5 → counted v u.at (entries_at v (length bytes) 0 None u) ≡ Ok (blocks, count, w) → AreCounted bytes v u blocks count w
+pub body_found : (bytes : List ℕ) (v : Version) (u : Unread) (blocks : List ℕ) (count : ℕ) (w : Unread) → u.at ≡ 5 → count_entries v u.at (entries_at v (length bytes) 0 None u) ≡ Ok (blocks, count, w) → AreCounted bytes v u blocks count w
 body_found bytes v u blocks count w place e =
     let b = bind_ok (entries_at v (length bytes) 0 None u) (λ x. Ok (blocks_from v 0 u.at None x.0, length x.0, x.1)) (blocks, count, w) e in
     body_is bytes v u b.0 blocks count w place b.1 (ok_is (blocks_from v 0 u.at None b.0.0, length b.0.0, b.0.1) (blocks, count, w) b.2)

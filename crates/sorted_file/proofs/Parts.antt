@@ -10,7 +10,7 @@ use Rattle.byte_fields.proofs.Fields.{bind_ok, then_ok, ok_is, told_ok, IsBytes,
 use Rattle.sorted_file.specs.Image.{version_bytes, part_bytes, flag_bytes, value_bytes}
 use Rattle.sorted_file.specs.Versions.{end_mark}
 use Rattle.sorted_file.specs.Lists.{longest_value}
-use Rattle.sorted_file.specs.Reading.{fault, uncut, expected_at, version_at, end_at, row_at, part_at, flag_at, value_at}
+use Rattle.sorted_file.specs.Reading.{fault, whole_field, expected_at, version_at, end_at, row_at, part_at, flag_at, value_at}
 use Rattle.sorted_file.specs.declared.fault.Fault.{Fault}
 use Rattle.sorted_file.specs.declared.fault.ImageCause.{ImageCause}
 use Rattle.sorted_file.specs.declared.fault.ImageCause.TheVariants.{Length, Bound}
@@ -27,7 +27,7 @@ expected_again cause field at rest = rw (bytes_again field (length field) refl a
 pub expected_take : (cause : ImageCause) (field : List ℕ) (u v : Unread) → IsBytes u.rest → expected_at cause field u ≡ Ok v → Takes u field v
 unfolding expected_at
 expected_take cause field u v fits e =
-    let b = bind_ok (uncut (bytes_at (length field) u)) (λ found. cond (bytes_eq found.0 field) (Ok found.1) (Err (fault cause u.at))) v e in
+    let b = bind_ok (whole_field (bytes_at (length field) u)) (λ found. cond (bytes_eq found.0 field) (Ok found.1) (Err (fault cause u.at))) v e in
     let g = then_ok (bytes_eq b.0.0 field) (fault cause u.at) (Ok b.0.1) v b.2 in
     let same : b.0.0 ≡ field = (bytes_eq-Decides b.0.0 field).0 g.0 in
     subst (λ (x : List ℕ × Unread). Takes u x.0 x.1) (λ i. (same i, ok_is b.0.1 v g.1 i)) (bytes_take (length field) u b.0 fits (told_ok (fault Length) (bytes_at (length field) u) b.0 b.1)).0
@@ -66,7 +66,7 @@ one_byte (b ∷ []) n len e = ap (λ (k : ℕ). k ∷ []) e
 one_byte (b ∷ c ∷ bytes) n len e = absurd (omega arith)
 
 -- a field of one byte
-pub byte_take : (u : Unread) (x : List ℕ × Unread) → IsBytes u.rest → uncut (bytes_at 1 u) ≡ Ok x → Takes u (get_or x.0 0 0 ∷ []) x.1
+pub byte_take : (u : Unread) (x : List ℕ × Unread) → IsBytes u.rest → whole_field (bytes_at 1 u) ≡ Ok x → Takes u (get_or x.0 0 0 ∷ []) x.1
 byte_take u x fits e =
     let t = bytes_take 1 u x fits (told_ok (fault Length) (bytes_at 1 u) x e) in
     subst (λ (bs : List ℕ). Takes u bs x.1) (one_byte x.0 (get_or x.0 0 0) t.1 refl) t.0
@@ -90,7 +90,7 @@ pub flag_take : (u : Unread) (x : Bool × Unread) → IsBytes u.rest → flag_at
 unfolding flag_at
 flag_take u x fits e =
     let flag_of = λ (flag : List ℕ × Unread). cond (eqb (get_or flag.0 0 0) 0) (Ok (false, flag.1)) (cond (eqb (get_or flag.0 0 0) 1) (Ok (true, flag.1)) (Err (fault Bound u.at))) in
-    let b = bind_ok (uncut (bytes_at 1 u)) flag_of x e in
+    let b = bind_ok (whole_field (bytes_at 1 u)) flag_of x e in
     by_byte u b.0.1 flag_bytes (get_or b.0.0 0 0) 0 1 false true (fault Bound u.at) x (byte_take u b.0 fits b.1) refl refl b.2
 
 -- ---- versions and end marks
@@ -104,7 +104,7 @@ pub version_take : (u : Unread) (x : Version × Unread) → IsBytes u.rest → v
 unfolding version_at
 version_take u x fits e =
     let version_of = λ (number : List ℕ × Unread). cond (eqb (get_or number.0 0 0) 1) (Ok (One, number.1)) (cond (eqb (get_or number.0 0 0) 2) (Ok (Two, number.1)) (Err (fault causes.Version u.at))) in
-    let b = bind_ok (uncut (bytes_at 1 u)) version_of x e in
+    let b = bind_ok (whole_field (bytes_at 1 u)) version_of x e in
     by_byte u b.0.1 version_bytes (get_or b.0.0 0 0) 1 2 One Two (fault causes.Version u.at) x (byte_take u b.0 fits b.1) refl refl b.2
 
 pub end_again : (v : Version) → Again (end_at v) (end_mark v) true
@@ -120,12 +120,12 @@ is_true b v w e =
 pub end_take : (v : Version) (u w : Unread) → IsBytes u.rest → end_at v u ≡ Ok (true, w) → Takes u (end_mark v) w
 unfolding end_at
 end_take One u w fits e =
-    let b = bind_ok (uncut (number_at 2 u)) (λ row. Ok (eqb row.0 0, row.1)) (true, w) e in
+    let b = bind_ok (whole_field (number_at 2 u)) (λ row. Ok (eqb row.0 0, row.1)) (true, w) e in
     let t = number_take 2 (2 ^ 16) wide2 u b.0 fits (told_ok (fault Length) (number_at 2 u) b.0 b.1) in
     let is = is_true (eqb b.0.0 0) b.0.1 w b.2 in
     subst (λ (k : ℕ). Takes u (big_bytes 2 k) w) (eqb-true _ _ is.0) (subst (Takes u (big_bytes 2 b.0.0)) is.1 t.0)
 end_take Two u w fits e =
-    let b = bind_ok (uncut (bytes_at 1 u)) (λ same. Ok (eqb (get_or same.0 0 0) 255, same.1)) (true, w) e in
+    let b = bind_ok (whole_field (bytes_at 1 u)) (λ same. Ok (eqb (get_or same.0 0 0) 255, same.1)) (true, w) e in
     let is = is_true (eqb (get_or b.0.0 0 0) 255) b.0.1 w b.2 in
     subst (λ (k : ℕ). Takes u (k ∷ []) w) (eqb-true _ _ is.0) (subst (Takes u (get_or b.0.0 0 0 ∷ [])) is.1 (byte_take u b.0 fits b.1))
 

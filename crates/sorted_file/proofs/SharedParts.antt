@@ -9,7 +9,7 @@ use Rattle.byte_fields.specs.Fields.{Unread, bytes_at}
 use Rattle.byte_fields.proofs.Fields.{bind_ok, else_ok, ok_is, IsBytes, spot, Takes, Again, bytes_again}
 use Rattle.sorted_file.specs.Image.{part_bytes, equal_parts, neighbour, shared_parts, own_bytes}
 use Rattle.sorted_file.specs.Versions.{same_bytes, has_neighbour}
-use Rattle.sorted_file.specs.Reading.{fault, uncut, most_shared, same_at, sharer, shared_or}
+use Rattle.sorted_file.specs.Reading.{fault, whole_field, most_shared, same_at, sharer, shared_or}
 use Rattle.sorted_file.specs.declared.fault.Fault.{Fault}
 use Rattle.sorted_file.specs.declared.fault.ImageCause.TheVariants.{Bound}
 use Rattle.sorted_file.specs.declared.version.Version.{Version}
@@ -125,7 +125,7 @@ same_take One near u x fits e =
     subst (λ (y : ℕ × Unread). Takes u [] y.1 × (y.0 ≤ most_shared near)) (ok_is (0, u) x e) (nothing_taken u fits, omega arith)
 same_take Two near u x fits e =
     let same_of = λ (same : List ℕ × Unread). cond (ltb (most_shared near) (get_or same.0 0 0)) (Err (fault Bound u.at)) (Ok (get_or same.0 0 0, same.1)) in
-    let b = bind_ok (uncut (bytes_at 1 u)) same_of x e in
+    let b = bind_ok (whole_field (bytes_at 1 u)) same_of x e in
     let g = else_ok (ltb (most_shared near) (get_or b.0.0 0 0)) (fault Bound u.at) (Ok (get_or b.0.0 0 0, b.0.1)) x b.2 in
     subst (λ (y : ℕ × Unread). Takes u (y.0 ∷ []) y.1 × (y.0 ≤ most_shared near)) (ok_is (get_or b.0.0 0 0, b.0.1) x g.1) (byte_take u b.0 fits b.1, ltb-false _ _ g.0)
 

@@ -24,8 +24,8 @@ Opens view (Err (Image at cause)) reading = reading ≡ Err (record { at = at; c
 Opens view (Err NoMemory) reading = ⊤
 
 -- the blocks and the number of the entries that were read from a place on, and what follows them
-abbrev pub counted : Version → ℕ → Result (List Cell × Unread) Fault → Result (List ℕ × ℕ × Unread) Fault
-counted v at entries = entries >>= λ x. Ok (blocks_from v 0 at None x.0, length x.0, x.1)
+abbrev pub count_entries : Version → ℕ → Result (List Cell × Unread) Fault → Result (List ℕ × ℕ × Unread) Fault
+count_entries v at entries = entries >>= λ x. Ok (blocks_from v 0 at None x.0, length x.0, x.1)
 
 -- the version of an image and the number of its entries
 abbrev pub shape_of : Result FileContents Fault → Result (Version × ℕ) Fault

@@ -23,13 +23,13 @@ abbrev pub fault : ImageCause → ℕ → Fault
 fault cause at = record { at = at; cause = cause }
 
 -- the reading of a field, which is a fault of its length where it is cut
-abbrev pub uncut : {A : Type 0} → Result A ℕ → Result A Fault
-uncut reading = told (fault Length) reading
+abbrev pub whole_field : {A : Type 0} → Result A ℕ → Result A Fault
+whole_field reading = told (fault Length) reading
 
 -- a field that can only be these bytes
 unfoldable pub expected_at : ImageCause → List ℕ → Unread → Result Unread Fault
 expected_at cause bytes u = do
-  found ← uncut (bytes_at (length bytes) u)
+  found ← whole_field (bytes_at (length bytes) u)
   if bytes_eq found.0 bytes then Ok found.1 else Err (fault cause u.at)
 
 -- a row: its length, 1 to 1,024, and its bytes
@@ -43,7 +43,7 @@ part_at u = sized_at (fault Length) (fault Bound) 2 (λ n. nat_lt max_part n) u
 -- whether an entry is a marker: a byte 1 or 0
 unfoldable pub flag_at : Unread → Result (Bool × Unread) Fault
 flag_at u = do
-  flag ← uncut (bytes_at 1 u)
+  flag ← whole_field (bytes_at 1 u)
   if slice_index flag.0 0 == 0 then Ok (false, flag.1)
       else (if slice_index flag.0 0 == 1 then Ok (true, flag.1) else Err (fault Bound u.at))
 
@@ -60,7 +60,7 @@ most_shared (Some near) = 4
 unfoldable pub same_at : Version → Option Cell → Unread → Result (ℕ × Unread) Fault
 same_at One near u = Ok (0, u)
 same_at Two near u = do
-  same ← uncut (bytes_at 1 u)
+  same ← whole_field (bytes_at 1 u)
   if nat_lt (most_shared near) (slice_index same.0 0) then Err (fault Bound u.at) else Ok (slice_index same.0 0, same.1)
 
 -- the neighbour's key, if a part of it is shared: the i-th of them, from 0
@@ -79,7 +79,7 @@ key_at same near u = do
   family ← shared_or (λ k. k.family) part_at (sharer 1 same near) row.1
   qualifier ← shared_or (λ k. k.qualifier) part_at (sharer 2 same near) family.1
   visibility ← shared_or (λ k. k.visibility) part_at (sharer 3 same near) qualifier.1
-  time ← uncut (number_at 8 visibility.1)
+  time ← whole_field (number_at 8 visibility.1)
   deleted ← flag_at time.1
   Ok (
     record {
@@ -112,10 +112,10 @@ next_entry_at v n before u = do
 -- whether the end mark stands in the place of an entry's first field
 unfoldable pub end_at : Version → Unread → Result (Bool × Unread) Fault
 end_at One u = do
-  row ← uncut (number_at 2 u)
+  row ← whole_field (number_at 2 u)
   Ok (row.0 == 0, row.1)
 end_at Two u = do
-  same ← uncut (bytes_at 1 u)
+  same ← whole_field (bytes_at 1 u)
   Ok (slice_index same.0 0 == 255, same.1)
 
 -- the entries up to the end mark, of which there are at most as many as the first number says: it is the number of bytes. So many
@@ -139,7 +139,7 @@ index_at (place ∷ places) u = do
 -- the version: a byte 1 or 2
 unfoldable pub version_at : Unread → Result (Version × Unread) Fault
 version_at u = do
-  number ← uncut (bytes_at 1 u)
+  number ← whole_field (bytes_at 1 u)
   if slice_index number.0 0 == 1 then Ok (One, number.1)
       else (if slice_index number.0 0 == 2 then Ok (Two, number.1) else Err (fault causes.Version u.at))
 

@@ -27,7 +27,7 @@ pub enum ImageCause {
 /// The first fault of bytes that are no image.
 #[derive(Clone, Copy, Debug, PartialEq, Eq)]
 pub struct Fault {
-    /// The place of the field's first byte, or of the entry's where its shared parts or its order are the cause, counted from
+    /// The place of the field's first byte, or of the entry's where its shared parts or its order are the cause, count_entries from
     /// 0.
     pub at: u64,
     pub cause: ImageCause,
@@ -66,7 +66,7 @@ impl From<Cut> for Fault {
 /// Why bytes were not opened.
 #[derive(Clone, Copy, Debug, PartialEq, Eq, Error)]
 pub enum OpenError {
-    /// The bytes are no image: the place of the first fault, counted from 0, and its cause.
+    /// The bytes are no image: the place of the first fault, count_entries from 0, and its cause.
     #[error("no image: {cause:?} at {at}")]
     Image { at: u64, cause: ImageCause },
     #[error("out of memory")]

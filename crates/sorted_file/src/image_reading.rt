@@ -2,7 +2,7 @@
 ghost use Rattle.std.specs.Prelude.{◌≡◌, ◌<◌, ◌≤◌, ◌++◌, None, All, IfOk, OnOk, length, option_map};
 ghost use Rattle.cell_key.specs.Views.{cell_of};
 ghost use Rattle.byte_fields.specs.Answers.{unread_of};
-ghost use Rattle.sorted_file.specs.Answers.{Gives, Opens, contents_in, counted, shape_of};
+ghost use Rattle.sorted_file.specs.Answers.{Gives, Opens, contents_in, count_entries, shape_of};
 ghost use Rattle.sorted_file.specs.Image.{block_places, block_start, image_of, neighbour};
 ghost use Rattle.sorted_file.specs.Lists.{IsFileList};
 ghost use Rattle.sorted_file.specs.Reading.{end_at, entries_at, expected_at, footer_at, head_at, image_reading, index_at, next_entry_at, version_at};
@@ -109,7 +109,7 @@ fn take_body<'a>(
     requires few { length input.rest.now ≤ most }
     requires bytes { All (λ b. b < 256) input.rest.now }
     ensures { Opens (λ body. (body.places.items, body.count, unread_of body.rest)) result
-        (counted version input.entry.at (entries_at version most 0 None (unread_of input.entry))) }
+        (count_entries version input.entry.at (entries_at version most 0 None (unread_of input.entry))) }
 {
     let mut places = Vec::new(alloc);
     let mut count = 0;
