@@ -6,7 +6,7 @@ use Rattle.combiners.proofs.steps.combine_seek.Goals as goal
 
 pub drop_before-requires-clause-read : goal.drop_before-requires-clause-read
 drop_before-requires-clause-read g c =
-    seek_read c.deref.result.now (arc_value c.args.stage.now.columns) (g.R.Reducer.reduction c.args.stage.now.reducer) (span_of c.whole_columns.result)
+    seek_read c.deref.result.now (arc_value c.args.stage.now.columns) (g.R.Reducer.reduction c.args.stage.now.reducer) _
     (g.S.SortedSource.cells c.args.source.now) (g.S.SortedSource.rest c.seek.new.self) c.deref.ensures c.in_ok-seek.ensures.rest c.requires.fits.0
 
 pub returns-clause-left : goal.returns-clause-left
