@@ -1,6 +1,7 @@
 pub mod Parts
 pub mod Folds
 pub mod Compactions
+pub mod Early
 pub mod Marked
 pub mod Restrictions
 pub mod Whole

@@ -15,7 +15,7 @@ use Rattle.tablet_model.specs.Reductions.{Reduction, IsLawful, join_from, reduce
 use Rattle.tablet_model.specs.Combines.{leads, joined_value, with_joined_value, combine_columns}
 use Rattle.tablet_model.specs.Stages.{Stage, by_cell, newest, combine, stage, stages}
 use Rattle.tablet_model.specs.Accepted.{IsWellMade}
-use Rattle.tablet_model.specs.Reading.{AreRead}
+use Rattle.tablet_model.specs.Reading.{AreUnmarkedRead}
 use Rattle.tablet_model.proofs.ExampleCells.{put_x, differ, not_empty, tally, tally_lawful, marks, few, length_marks}
 
 abbrev always : Cell → Bool
@@ -32,11 +32,8 @@ abbrev late : List Stage → List Cell → List Cell → List Cell
 late ss a x = stages ss (sum_of a x)
 
 -- what the law says of a list that is accepted
-abbrev HasNoMarkers : List Cell → Type 0
-HasNoMarkers list = AllByRecursion (λ e. e.key.deleted ≡ false) list
-
 abbrev MayRunEarly : List Stage → Type 0
-MayRunEarly ss = (a x : List Cell) → HasNoMarkers a → HasNoMarkers x → AreRead ss a → AreRead ss x → Ascends above a → early ss a x ≡ late ss a x
+MayRunEarly ss = (a x : List Cell) → AreUnmarkedRead ss a → AreUnmarkedRead ss x → Ascends above a → early ss a x ≡ late ss a x
 
 some : (n : ℕ) → 0 < n + 1
 some n = omega arith
@@ -65,7 +62,7 @@ count_then_filter_is_well_made : AllByRecursion IsWellMade count_then_filter
 count_then_filter_is_well_made = (((λ c e h. refl), tally_lawful), (tt, tt))
 
 count_then_filter_may_not : MayRunEarly count_then_filter → ⊥
-count_then_filter_may_not law = let p = no_cell_filter_behind_a_combiner in not_empty (put_x 2 (codes "||")) (sym p.1 ∙ sym (law (put_x 1 (codes "|") ∷ []) (put_x 2 (codes "|") ∷ []) (refl, tt) (refl, tt) (((λ l. refl), (tt, tt)), tt) (((λ l. refl), (tt, tt)), tt) (one_in_order (put_x 1 (codes "|")))) ∙ p.0)
+count_then_filter_may_not law = let p = no_cell_filter_behind_a_combiner in not_empty (put_x 2 (codes "||")) (sym p.1 ∙ sym (law (put_x 1 (codes "|") ∷ []) (put_x 2 (codes "|") ∷ []) ((λ d. ((λ l. refl), (tt, tt))), tt) ((λ d. ((λ l. refl), (tt, tt))), tt) (one_in_order (put_x 1 (codes "|")))) ∙ p.0)
 
 -- nor before it: the joined value would go through the filter again
 abbrev filter_then_count : List Stage
@@ -80,7 +77,7 @@ filter_then_count_is_well_made : AllByRecursion IsWellMade filter_then_count
 filter_then_count_is_well_made = (tt, (((λ c e h. refl), tally_lawful), tt))
 
 filter_then_count_may_not : MayRunEarly filter_then_count → ⊥
-filter_then_count_may_not law = let p = no_cell_filter_before_a_combiner in not_empty (put_x 2 (codes "||")) (sym p.1 ∙ sym (law (put_x 2 (codes "|") ∷ put_x 1 (codes "|") ∷ []) [] (refl, (refl, tt)) tt ((tt, ((λ l. refl), tt)), ((tt, ((λ l. refl), tt)), tt)) tt (two_in_order (codes "|") (codes "|"))) ∙ p.0)
+filter_then_count_may_not law = let p = no_cell_filter_before_a_combiner in not_empty (put_x 2 (codes "||")) (sym p.1 ∙ sym (law (put_x 2 (codes "|") ∷ put_x 1 (codes "|") ∷ []) [] ((λ d. (tt, ((λ l. refl), tt))), ((λ d. (tt, ((λ l. refl), tt))), tt)) tt (two_in_order (codes "|") (codes "|"))) ∙ p.0)
 
 -- no combiner behind versions: a joined value counts as one version
 abbrev two_versions_then_count : List Stage
@@ -95,7 +92,7 @@ two_versions_then_count_is_well_made : AllByRecursion IsWellMade two_versions_th
 two_versions_then_count_is_well_made = (some 1, (((λ c e h. refl), tally_lawful), tt))
 
 two_versions_then_count_may_not : MayRunEarly two_versions_then_count → ⊥
-two_versions_then_count_may_not law = let p = no_combiner_behind_versions in differ (codes "|||") (codes "||") 3 three_two (sym p.0 ∙ law (put_x 2 (codes "|") ∷ put_x 1 (codes "|") ∷ []) (put_x 3 (codes "|") ∷ []) (refl, (refl, tt)) (refl, tt) ((tt, ((λ l. refl), tt)), ((tt, ((λ l. refl), tt)), tt)) ((tt, ((λ l. refl), tt)), tt) (two_in_order (codes "|") (codes "|")) ∙ p.1)
+two_versions_then_count_may_not law = let p = no_combiner_behind_versions in differ (codes "|||") (codes "||") 3 three_two (sym p.0 ∙ law (put_x 2 (codes "|") ∷ put_x 1 (codes "|") ∷ []) (put_x 3 (codes "|") ∷ []) ((λ d. (tt, ((λ l. refl), tt))), ((λ d. (tt, ((λ l. refl), tt))), tt)) ((λ d. (tt, ((λ l. refl), tt))), tt) (two_in_order (codes "|") (codes "|")) ∙ p.1)
 
 -- no cell filter behind versions: an older version would take the place of one that was dropped
 abbrev one_version_then_filter : List Stage
@@ -110,7 +107,7 @@ one_version_then_filter_is_well_made : AllByRecursion IsWellMade one_version_the
 one_version_then_filter_is_well_made = (some 0, (tt, tt))
 
 one_version_then_filter_may_not : MayRunEarly one_version_then_filter → ⊥
-one_version_then_filter_may_not law = let p = no_cell_filter_behind_versions in not_empty (put_x 1 (codes "a")) (sym p.0 ∙ law (put_x 2 (codes "b") ∷ []) (put_x 1 (codes "a") ∷ []) (refl, tt) (refl, tt) ((tt, (tt, tt)), tt) ((tt, (tt, tt)), tt) (one_in_order (put_x 2 (codes "b"))) ∙ p.1)
+one_version_then_filter_may_not law = let p = no_cell_filter_behind_versions in not_empty (put_x 1 (codes "a")) (sym p.0 ∙ law (put_x 2 (codes "b") ∷ []) (put_x 1 (codes "a") ∷ []) ((λ d. (tt, (tt, tt))), tt) ((λ d. (tt, (tt, tt))), tt) (one_in_order (put_x 2 (codes "b"))) ∙ p.1)
 
 -- a reduction that gives the larger of two counts, and two at least
 abbrev at_least_two : ℕ → ℕ
@@ -173,7 +170,7 @@ count_then_largest_is_well_made : AllByRecursion IsWellMade count_then_largest
 count_then_largest_is_well_made = (((λ c e h. refl), tally_lawful), (((λ c e h. refl), largest_lawful), tt))
 
 count_then_largest_may_not : MayRunEarly count_then_largest → ⊥
-count_then_largest_may_not law = let p = no_two_combiners_of_one_column in differ (codes "|||") (codes "||") 2 three_two (sym p.0 ∙ law (put_x 1 (codes "|") ∷ []) (put_x 2 (codes "|") ∷ []) (refl, tt) (refl, tt) (((λ l. refl), ((λ l. refl), tt)), tt) (((λ l. refl), ((λ l. refl), tt)), tt) (one_in_order (put_x 1 (codes "|"))) ∙ p.1)
+count_then_largest_may_not law = let p = no_two_combiners_of_one_column in differ (codes "|||") (codes "||") 2 three_two (sym p.0 ∙ law (put_x 1 (codes "|") ∷ []) (put_x 2 (codes "|") ∷ []) ((λ d. ((λ l. refl), ((λ l. refl), tt))), tt) ((λ d. ((λ l. refl), ((λ l. refl), tt))), tt) (one_in_order (put_x 1 (codes "|"))) ∙ p.1)
 
 -- no combiner whose join depends on the order: a part joins its own values before those of another that stand between them
 abbrev appending : Reduction

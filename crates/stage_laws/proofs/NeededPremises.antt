@@ -317,3 +317,44 @@ an_unread_value_in_a_full_compaction = (refl, refl)
 
 full_of_unread_values_is_false : ((plain : Cell → Bool) → IsOfColumns plain → (ps qs : List Stage) (a x : List Cell) → AreAccepted (ps ++ qs) → Ascends above a → HasPlainMarkers plain a → HasPlainMarkers plain x → AreNewer plain x a → scan (ps ++ qs) (full_compaction ps a) x ≡ scan (ps ++ qs) a x) → ⊥
 full_of_unread_values_is_false law = let p = an_unread_value_in_a_full_compaction in differ (codes "|") [] 2 one_none (sym p.0 ∙ law (λ e. true) (λ c e h. refl) refusing_strictly [] (put_x 1 (codes "a") ∷ []) (put_x 2 (codes "|") ∷ []) refusing_accepted (alone (put_x 1 (codes "a"))) ((λ d. refl), tt) ((λ d. refl), tt) ((λ d. ((λ s. refl), tt)), tt) ∙ p.1)
+
+-- and where a newer entry comes to two lists of one answer
+an_unread_value_beside_a_newer_entry : (scan counting_strictly (put_x 1 (codes "a") ∷ []) (put_x 2 (codes "|") ∷ []) ≡ put_x 2 [] ∷ [])
+    × (scan counting_strictly (put_x 1 [] ∷ []) (put_x 2 (codes "|") ∷ []) ≡ put_x 2 (codes "|") ∷ [])
+    × (stages counting_strictly (live (put_x 1 (codes "a") ∷ [])) ≡ put_x 1 [] ∷ [])
+    × (stages counting_strictly (live (put_x 1 [] ∷ [])) ≡ put_x 1 [] ∷ [])
+unfolding stages stage sum_of sorted put above cell_cmp key_cmp column_cmp time_cmp combine_columns filter_beside leads with_joined_value joined_value put_beside same_column reduce_values join_from marker_beside live is_live hides
+an_unread_value_beside_a_newer_entry = (refl, refl, refl, refl)
+
+newer_of_unread_values_is_false : ((plain : Cell → Bool) → IsOfColumns plain → (ss : List Stage) (u w v : List Cell) → AreAccepted ss → Ascends above u → Ascends above w → HasPlainMarkers plain u → HasPlainMarkers plain w → HasPlainMarkers plain v → AreNewer plain v u → AreNewer plain v w → stages ss (live u) ≡ stages ss (live w) → scan ss u v ≡ scan ss w v) → ⊥
+newer_of_unread_values_is_false law = let p = an_unread_value_beside_a_newer_entry in differ (codes "|") [] 2 one_none (sym p.1 ∙ sym (law (λ e. true) (λ c e h. refl) counting_strictly (put_x 1 (codes "a") ∷ []) (put_x 1 [] ∷ []) (put_x 2 (codes "|") ∷ []) (((λ c e h. refl), strict_lawful), (tt, tt)) (alone (put_x 1 (codes "a"))) (alone (put_x 1 [])) ((λ d. refl), tt) ((λ d. refl), tt) ((λ d. refl), tt) ((λ d. ((λ s. refl), tt)), tt) ((λ d. ((λ s. refl), tt)), tt) (p.2 ∙ sym p.3)) ∙ p.0)
+
+-- early stages: values are read, and the part is in order
+an_unread_value_in_an_early_part : (stages counting_strictly (sum_of (stages counting_strictly (put_x 1 (codes "a") ∷ [])) (put_x 2 (codes "|") ∷ [])) ≡ put_x 2 (codes "|") ∷ [])
+    × (stages counting_strictly (sum_of (put_x 1 (codes "a") ∷ []) (put_x 2 (codes "|") ∷ [])) ≡ put_x 2 [] ∷ [])
+unfolding stages stage sum_of sorted put above cell_cmp key_cmp column_cmp time_cmp combine_columns filter_beside leads with_joined_value joined_value put_beside same_column reduce_values join_from
+an_unread_value_in_an_early_part = (refl, refl)
+
+early_of_unread_values_is_false : ((ps qs : List Stage) (a x : List Cell) → AreAccepted (ps ++ qs) → Ascends above a → stages (ps ++ qs) (sum_of (stages ps a) x) ≡ stages (ps ++ qs) (sum_of a x)) → ⊥
+early_of_unread_values_is_false law = let p = an_unread_value_in_an_early_part in differ (codes "|") [] 2 one_none (sym p.0 ∙ law counting_strictly [] (put_x 1 (codes "a") ∷ []) (put_x 2 (codes "|") ∷ []) (((λ c e h. refl), strict_lawful), (tt, tt)) (alone (put_x 1 (codes "a"))) ∙ p.1)
+
+an_early_part_out_of_order : (stages one_version (sum_of (stages one_version oldest_first) []) ≡ put_x 1 (codes "|") ∷ [])
+    × (stages one_version (sum_of oldest_first []) ≡ put_x 3 (codes "||") ∷ [])
+unfolding stages stage sum_of sorted put above cell_cmp key_cmp column_cmp time_cmp filter_beside put_beside same_column versions is_recent
+an_early_part_out_of_order = (refl, refl)
+
+early_out_of_order_is_false : ((ps qs : List Stage) (a x : List Cell) → AreAccepted (ps ++ qs) → AreUnmarkedRead (ps ++ qs) a → AreUnmarkedRead (ps ++ qs) x → stages (ps ++ qs) (sum_of (stages ps a) x) ≡ stages (ps ++ qs) (sum_of a x)) → ⊥
+early_out_of_order_is_false law = let p = an_early_part_out_of_order in longer (sym p.1 ∙ sym (law one_version [] oldest_first [] versions_accepted (versions_read oldest_first) tt) ∙ p.0)
+
+-- plain columns are columns: where markers alone are plain, no times are compared
+abbrev is_marker : Cell → Bool
+is_marker e = e.key.deleted
+
+markers_alone_are_plain : AreApart is_marker marker_between puts
+markers_alone_are_plain = ((λ d. inl ((λ p. absurd (no_bool p)), ((λ p. absurd (no_bool p)), tt))), tt)
+
+minor_of_no_columns_is_false : ((plain : Cell → Bool) (ps qs : List Stage) (a x : List Cell) → AreAccepted (ps ++ qs) → Ascends above a → AreUnmarkedRead (ps ++ qs) a → AreUnmarkedRead (ps ++ qs) x → HasPlainMarkers plain x → AreApart plain x a → scan (ps ++ qs) (minor_compaction ps a) x ≡ scan (ps ++ qs) a x) → ⊥
+minor_of_no_columns_is_false law = let p = a_marker_in_the_middle_of_a_minor_compaction in differ (codes "||") (codes "|") 3 two_one (sym p.0 ∙ law is_marker (counting true) [] puts marker_between (accepted true) in_order (puts_read true) (marker_read true) ((λ d. refl), tt) markers_alone_are_plain ∙ p.1)
+
+full_of_no_columns_is_false : ((plain : Cell → Bool) (ps qs : List Stage) (a x : List Cell) → AreAccepted (ps ++ qs) → Ascends above a → AreUnmarkedRead (ps ++ qs) a → AreUnmarkedRead (ps ++ qs) x → HasPlainMarkers plain a → HasPlainMarkers plain x → AreNewer plain x a → scan (ps ++ qs) (full_compaction ps a) x ≡ scan (ps ++ qs) a x) → ⊥
+full_of_no_columns_is_false law = let p = an_older_entry_outside_a_full_compaction in not_empty (put_x 1 (codes "a")) (sym p.0 ∙ law is_marker [] [] marker_between (put_x 1 (codes "a") ∷ []) tt (alone (marker_x 2)) ((λ d. tt), tt) ((λ d. tt), tt) ((λ d. refl), tt) ((λ d. d), tt) ((λ d. absurd (no_bool d)), tt) ∙ p.1)

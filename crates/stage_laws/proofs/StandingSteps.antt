@@ -18,16 +18,14 @@ use Rattle.tablet_model.specs.Stands.{AreAllNewer, AreApartJobs, AreBelow, AreRi
 use Rattle.tablet_model.specs.Steps.{Event, StepAnswer, apply, compact, compact_all, find_job, finish, first_missing, first_taken, flush, freeze, frozen_there, ids_of, is_empty, job_exists, log_after, no_files, nothing_in_memory, refuse, refuse_start, refused, step, store_after, takes_all, with_job, without_job}
 use Rattle.tablet_model.specs.Store.{RunningJob, Store, all_of, cells_of, empty_store, frozen_of, files_with, parts_of, files_without}
 use Rattle.tablet_model.specs.Sum.{sum_of}
-use Rattle.tablet_model.proofs.Histories.{history_ascends}
 use Rattle.tablet_model.proofs.Ingests.{none_cond, none_first, none_map, none_second}
-use Rattle.tablet_model.proofs.OneColumn.{Ascends-live}
 use Rattle.tablet_model.proofs.Orders.{above_exact}
 use Rattle.tablet_model.proofs.Sums.{Ascends-sorted}
 use Rattle.stage_laws.proofs.FileLists.{takes_own}
 use Rattle.stage_laws.proofs.Jobs.{MayStart, jobs_finished, jobs_flushed, jobs_started, no_job, none_apart, none_missing}
 use Rattle.stage_laws.proofs.Parts.{accepted_keys}
-use Rattle.stage_laws.proofs.Restrictions.{stages_commute}
-use Rattle.stage_laws.proofs.Standing.{Ascends-all, flushed_newer, le_refl, stands_applied, stands_flushed, stands_frozen}
+use Rattle.stage_laws.proofs.Restrictions.{columns_of_puts, stages_commute}
+use Rattle.stage_laws.proofs.Standing.{flushed_newer, le_refl, stands_applied, stands_flushed, stands_frozen}
 use Rattle.stage_laws.proofs.StandingJobs.{stands_finished}
 use Rattle.stage_laws.proofs.Whole.{families_columns, full}
 
@@ -164,7 +162,7 @@ unfolding scan_of answer
 stores_answer c s h range families law k = ap (λ l. within range (c.scan_rest l)) (chosen (all_of s) ∙ ap (in_families families) k.in_parts.same ∙ sym (chosen (history_entries h)))
   where
     chosen : (list : List Cell) → stages c.base (in_families families (live list)) ≡ in_families families (stages c.base (live list))
-    chosen list = sym (stages_commute (is_in families) (families_columns families) c.base (accepted_keys c.base law.accepted) (live list))
+    chosen list = sym (stages_commute (is_in families) (columns_of_puts (is_in families) (families_columns families)) c.base (accepted_keys c.base law.accepted) (live list))
 
 pub steps_are_unseen : (c : Rules) (s : Store) (h : List RowChange) (e : Event) (range : Span) (families : Option (List (List ℕ))) → AreSound c → Stands c s h → log_after c s h e ≡ h → scan_of (scan_stack c) range families (all_of (store_after c s e)) ≡ scan_of (scan_stack c) range families (all_of s)
 steps_are_unseen c s h e range families law k same =

@@ -1,5 +1,5 @@
 -- The laws of compactions, over all columns.
-use Rattle.std.proofs.Common.{◌≡◌, ℕ, Option, Bool, true, false, cond, List, [], ◌∷◌, ◌++◌, refl, sym, ap, ◌∙◌, subst, ◌⊎◌, inl, inr}
+use Rattle.std.proofs.Common.{◌≡◌, ℕ, Option, Bool, true, false, List, [], ◌∷◌, ◌++◌, sym, ap, ◌∙◌, ◌⊎◌, inl, inr}
 use Rattle.std.specs.List.{AllByRecursion, filter}
 use Rattle.tablet_model.specs.Cell.{Cell, column_of}
 use Rattle.tablet_model.specs.Families.{has_family, is_in}
@@ -8,14 +8,14 @@ use Rattle.tablet_model.specs.Sorted.{Ascends}
 use Rattle.tablet_model.specs.Sum.{sum_of}
 use Rattle.tablet_model.specs.Markers.{mark, live}
 use Rattle.tablet_model.specs.Stages.{Stage, stages}
-use Rattle.tablet_model.specs.Accepted.{IsOfColumns, IsWellMade, KeepsKeys, AreAccepted}
+use Rattle.tablet_model.specs.Accepted.{IsOfColumns, KeepsKeys, AreAccepted}
 use Rattle.tablet_model.specs.Reading.{IsReadBy, AreUnmarkedRead}
 use Rattle.tablet_model.specs.Ages.{IsApart, AreApart, IsNewer, AreNewer, HasPlainMarkers}
 use Rattle.tablet_model.proofs.Orders.{above_exact, exact_columns}
 use Rattle.tablet_model.proofs.Sums.{all_filter, all_weaker, Ascends-filter}
-use Rattle.tablet_model.proofs.Columns.{of_column, equal_by_columns, column-sum, column-live, column-mark, filter_within}
-use Rattle.tablet_model.proofs.OneColumn.{columns_tie, InColumn, of_column_in, Ascends-live, Ascends-sum}
-use Rattle.stage_laws.proofs.Parts.{column-stages, Ascends-stages, made_all, stages_none, accepted_keys, accepted_first, keys_kept}
+use Rattle.tablet_model.proofs.Columns.{of_column, equal_by_columns, column-sum, column-live, column-mark}
+use Rattle.tablet_model.proofs.OneColumn.{columns_tie, of_column_in, Ascends-live, Ascends-sum}
+use Rattle.stage_laws.proofs.Parts.{column-stages, Ascends-stages, made_all, accepted_keys, accepted_first}
 use Rattle.stage_laws.proofs.Restrictions.{live_commutes}
 use Rattle.stage_laws.proofs.Marked.{AreSplit, minor_in, full_in, added_in, Beside, beside_newer}
 

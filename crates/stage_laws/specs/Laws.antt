@@ -1,7 +1,7 @@
 -- The laws of iterators and compactions, as statements. A tablet's parts are sorted lists; `a` is the part that is compacted, `x` the
 -- sum of the others, `ps` the compaction's stages and `ps ++ qs` all stages that compactions may have. All of these are this
 -- project's own theorems: each says that a scan does not see what was done.
-use Rattle.std.specs.Prelude.{◌≡◌, Bool, true, false, List, [], ◌++◌, filter, ℕ, Option}
+use Rattle.std.specs.Prelude.{◌≡◌, Bool, true, List, [], ◌++◌, filter, ℕ, Option}
 use Rattle.std.specs.List.{AllByRecursion, list_any}
 use Rattle.tablet_model.specs.Cell.{CellKey, Cell}
 use Rattle.tablet_model.specs.Order.{above}
@@ -12,7 +12,7 @@ use Rattle.tablet_model.specs.Families.{is_in, in_families}
 use Rattle.tablet_model.specs.Markers.{live, mark}
 use Rattle.tablet_model.specs.Stages.{Stage, stages}
 use Rattle.tablet_model.specs.Accepted.{IsOfColumns, IsWellMade, KeepsKeys, AreAccepted, AreDeletable, IsNotNewest, is_full}
-use Rattle.tablet_model.specs.Reading.{AreRead, AreUnmarkedRead, AreInFront}
+use Rattle.tablet_model.specs.Reading.{AreUnmarkedRead, AreInFront}
 use Rattle.tablet_model.specs.Ages.{AreNewer, AreApart, HasPlainMarkers}
 use Rattle.tablet_model.specs.Compactions.{minor_compaction, partial_compaction, full_compaction}
 
@@ -20,11 +20,10 @@ use Rattle.tablet_model.specs.Compactions.{minor_compaction, partial_compaction,
 abbrev pub NewestMarkersSuffice : Type 0
 NewestMarkersSuffice = (a x : List Cell) → Ascends above a → live (sum_of (mark a) x) ≡ live (sum_of a x)
 
--- of lists without markers, a part may have been through the first stages
+-- a part may have been through the first stages, which leave its markers as they are
 abbrev pub StagesMayRunEarly : Type 0
 StagesMayRunEarly = (ps qs : List Stage) (a x : List Cell) → AreAccepted (ps ++ qs)
-    → AllByRecursion (λ e. e.key.deleted ≡ false) a → AllByRecursion (λ e. e.key.deleted ≡ false) x
-    → AreRead (ps ++ qs) a → AreRead (ps ++ qs) x → Ascends above a
+    → AreUnmarkedRead (ps ++ qs) a → AreUnmarkedRead (ps ++ qs) x → Ascends above a
     → stages (ps ++ qs) (sum_of (stages ps a) x) ≡ stages (ps ++ qs) (sum_of a x)
 
 -- a part may have been through a minor compaction, where the others' markers are newer than all its plain entries or older than all

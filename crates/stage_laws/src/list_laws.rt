@@ -1,7 +1,7 @@
 //! What stages leave true of a list.
 ghost use Rattle.stage_laws.specs.Laws.{StagesMayRunEarly, RestrictionCommutes, FamiliesAreColumns, FamiliesMayComeFirst, StagesAscend, StagesMakeNoKeys, StagesStayInBounds, StagesMakeReadable, MarkedIsInFront, StagesKeepFront};
 
-/// Of lists without markers, a part may go through the first stages before.
+/// A part may go through the first stages before.
 pub fn stages_may_run_early()
     ensures { StagesMayRunEarly }
 {}
