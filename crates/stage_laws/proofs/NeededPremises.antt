@@ -358,3 +358,6 @@ minor_of_no_columns_is_false law = let p = a_marker_in_the_middle_of_a_minor_com
 
 full_of_no_columns_is_false : ((plain : Cell → Bool) (ps qs : List Stage) (a x : List Cell) → AreAccepted (ps ++ qs) → Ascends above a → AreUnmarkedRead (ps ++ qs) a → AreUnmarkedRead (ps ++ qs) x → HasPlainMarkers plain a → HasPlainMarkers plain x → AreNewer plain x a → scan (ps ++ qs) (full_compaction ps a) x ≡ scan (ps ++ qs) a x) → ⊥
 full_of_no_columns_is_false law = let p = an_older_entry_outside_a_full_compaction in not_empty (put_x 1 (codes "a")) (sym p.0 ∙ law is_marker [] [] marker_between (put_x 1 (codes "a") ∷ []) tt (alone (marker_x 2)) ((λ d. tt), tt) ((λ d. tt), tt) ((λ d. refl), tt) ((λ d. d), tt) ((λ d. absurd (no_bool d)), tt) ∙ p.1)
+
+newer_of_no_columns_is_false : ((plain : Cell → Bool) (ss : List Stage) (u w v : List Cell) → AreAccepted ss → Ascends above u → Ascends above w → AreUnmarkedRead ss u → AreUnmarkedRead ss w → AreUnmarkedRead ss v → HasPlainMarkers plain u → HasPlainMarkers plain w → HasPlainMarkers plain v → AreNewer plain v u → AreNewer plain v w → stages ss (live u) ≡ stages ss (live w) → scan ss u v ≡ scan ss w v) → ⊥
+newer_of_no_columns_is_false law = let p = an_older_entry_tells_equal_answers_apart in not_empty (put_x 1 (codes "a")) (sym p.3 ∙ sym (law is_marker [] marker_between [] (put_x 1 (codes "a") ∷ []) tt (alone (marker_x 2)) nothing_in_order ((λ d. tt), tt) tt ((λ d. tt), tt) ((λ d. refl), tt) tt ((λ d. d), tt) ((λ d. absurd (no_bool d)), tt) ((λ d. absurd (no_bool d)), tt) nothing_lives) ∙ p.2)
