@@ -7,6 +7,8 @@ pub mod Rising
 pub mod Running
 pub mod Extensions
 pub mod SessionWalks
+pub mod Differing
+pub mod Untimed
 pub mod Turns
 pub mod Fetches
 pub mod Seeking

@@ -11,7 +11,7 @@ use Rattle.tablet_model.specs.Order.{key_cmp, bytes_cmp, above}
 use Rattle.tablet_model.specs.Places.{Place, is_after, after}
 use Rattle.tablet_model.specs.Sorted.{Ascends}
 use Rattle.tablet_model.proofs.CutLemmas.{key_le, row_le}
-use Rattle.tablet_model.proofs.Merges.{all_append}
+use Rattle.tablet_model.proofs.Merges.{all_append, all_left, all_right}
 use Rattle.tablet_model.proofs.Orders.{above_exact, exact_keys, key_total}
 use Rattle.tablet_model.proofs.Sums.{Ascends-filter, all_weaker}
 use Rattle.scan_session.specs.Keys.{KeysDiffer, KeysRise}
@@ -20,7 +20,7 @@ use Rattle.scan_session.specs.WalkLaws.{AnswersAscend, PiecesPartNoKey, WalksNev
 use Rattle.scan_session.specs.Walks.{EndsWell, IsPieceOf, Walks, entries_of_pieces}
 use Rattle.scan_session.specs.declared.piece.Piece.{Piece}
 use Rattle.scan_session.proofs.Beyond.{both_ways, beyond, is_behind_entry, above_of_beyond, after-GoesUp, all_pass, all_last, own}
-use Rattle.scan_session.proofs.Pairs.{all_front, all_back, Ascends-append, Ascends-front, Ascends-weaker, IsDistinct-front, IsDistinct-filter, strictly-append}
+use Rattle.scan_session.proofs.Pairs.{Ascends-append, Ascends-front, Ascends-weaker, IsDistinct-front, IsDistinct-filter, strictly-append}
 
 -- what is beyond an entry is beyond those that aren't above it
 beyond_before : (mode : Mode) (a b y : Cell) → above a b ≡ false → beyond mode y b ≡ true → beyond mode y a ≡ true
@@ -72,7 +72,7 @@ walk_after answers most mode p q n l (x ∷ xs) w =
     let here : AllByRecursion (λ e. is_after p e.key ≡ true) (x.entries ++ piece.rest) =
     subst (AllByRecursion (λ e. is_after p e.key ≡ true)) piece.whole (all_pass (λ e. is_after p e.key) (answers x.n)) in
     all_append (λ e. is_after p e.key ≡ true) x.entries (entries_of_pieces xs)
-    (all_front (λ e. is_after p e.key ≡ true) x.entries piece.rest here)
+    (all_left (λ e. is_after p e.key ≡ true) x.entries piece.rest here)
     (all_weaker (λ e. is_after (place_after mode p x.entries) e.key ≡ true) (λ e. is_after p e.key ≡ true)
     (behind_is_after mode p x.entries piece.rest here piece.ends) (entries_of_pieces xs)
     (walk_after answers most mode (place_after mode p x.entries) q x.n l xs w.3))
@@ -93,7 +93,7 @@ pieces_beyond answers most mode p q n l (x ∷ xs) ys up w =
     subst (AllByRecursion there) (joined_append xs ys) (walk_after answers most mode (place_after mode p x.entries) q x.n l (xs ++ ys) w.3) in
     all_append (λ a. AllByRecursion (λ b. beyond mode b a ≡ true) (entries_of_pieces ys)) x.entries (entries_of_pieces xs)
     (behind_is_beyond mode p x.entries piece.rest (entries_of_pieces ys) (up_after p (answers x.n) x.entries piece.rest (up x.n w.1) piece.whole) piece.ends
-    (all_back there (entries_of_pieces xs) (entries_of_pieces ys) later))
+    (all_right there (entries_of_pieces xs) (entries_of_pieces ys) later))
     (pieces_beyond answers most mode (place_after mode p x.entries) q x.n l xs ys up w.3)
 
 less_of : (p q : Ordering) → p ≡ ordering_reverse q → is_gt q ≡ true → p ≡ Less

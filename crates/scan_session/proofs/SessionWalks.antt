@@ -1,10 +1,10 @@
 -- What a session's calls in a row give.
-use Rattle.std.proofs.Common.{◌≡◌, ℕ, ◌≤◌, List, [], ◌∷◌, ◌++◌, length, take, refl, sym, ap, ◌∙◌, subst, le_refl, append-nil}
+use Rattle.std.proofs.Common.{◌≡◌, ℕ, ◌≤◌, List, [], ◌∷◌, ◌++◌, length, take, Option, refl, sym, ap, ◌∙◌, subst, le_refl, append-nil}
 use Rattle.std.proofs.Math.Seq.{take-length}
 use Rattle.std.proofs.lemmas.List.{take-append-le}
 use Rattle.tablet_model.specs.Answers.{answer, scan_of}
 use Rattle.tablet_model.specs.Cell.{Cell}
-use Rattle.tablet_model.specs.Cuts.{holds}
+use Rattle.tablet_model.specs.Cuts.{Span, holds}
 use Rattle.tablet_model.specs.Families.{in_families, is_in}
 use Rattle.tablet_model.specs.History.{RowChange, history_entries}
 use Rattle.tablet_model.specs.Markers.{live}
@@ -19,6 +19,7 @@ use Rattle.tablet_model.proofs.Risings.{Ascends-combined, Ascends-filtered, Asce
 use Rattle.tablet_model.proofs.Sums.{Ascends-filter}
 use Rattle.cell_key.specs.Listed.{column_listed, listed_of_columns}
 use Rattle.iter_config.specs.Predicates.{keeps}
+use Rattle.iter_config.specs.Settings.{Settings}
 use Rattle.iter_config.specs.Stages.{stage_list, stage_of, stages_of}
 use Rattle.iter_config.specs.declared.iter_spec.IterSpec.{IterSpec}
 use Rattle.iter_config.specs.declared.iter_spec.Kind.{Kind}
@@ -35,7 +36,7 @@ use Rattle.scan_session.specs.declared.piece.Piece.{Piece}
 use Rattle.scan_session.proofs.Walking.{begin_answer, walks_join, walks_on, walks_lower, walks_bounded}
 
 -- each iterator keeps a list in order
-kind_ascends : (kind : Kind) (list : List Cell) → Ascends above list → Ascends above (stage (stage_of kind) list)
+pub kind_ascends : (kind : Kind) (list : List Cell) → Ascends above list → Ascends above (stage (stage_of kind) list)
 unfolding stage
 kind_ascends (Filter p negate) list up =
     filter_is (λ s. Ascends above (stage s list)) p negate (λ e. Ascends-filtered (keeps p negate) list up) (λ e. Ascends-filtered (keeps p negate) list up)
@@ -50,12 +51,17 @@ unfolding stages
 all_ascend [] list up = up
 all_ascend (s ∷ ss) list up = all_ascend ss (stage (stage_of s.kind) list) (kind_ascends s.kind list up)
 
-pub answers_ascend : AnswersStandInOrder
+-- what a scan answers is in order
+pub scan_ascends : (c : Settings) (range : Span) (families : Option (List (List ℕ))) (log : List RowChange)
+    → Ascends above (answer (stages (stages_of c)) range families log)
 unfolding answer scan_of
-answers_ascend s log =
-    Ascends-filter above above_exact (λ e. holds s.range e.key) (stages (stages_of s.view.config) (in_families s.families (live (history_entries log))))
-    (all_ascend s.view.config.iterators (in_families s.families (live (history_entries log)))
-    (Ascends-filter above above_exact (is_in s.families) (live (history_entries log)) (Ascends-live (history_entries log) (history_ascends log))))
+scan_ascends c range families log =
+    Ascends-filter above above_exact (λ e. holds range e.key) (stages (stages_of c) (in_families families (live (history_entries log))))
+    (all_ascend c.iterators (in_families families (live (history_entries log)))
+    (Ascends-filter above above_exact (is_in families) (live (history_entries log)) (Ascends-live (history_entries log) (history_ascends log))))
+
+pub answers_ascend : AnswersStandInOrder
+answers_ascend s log = scan_ascends s.view.config s.range s.families log
 
 pub staying : StayingWalks
 staying s = record {

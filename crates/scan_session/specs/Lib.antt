@@ -6,4 +6,5 @@ pub mod Runs
 pub mod Looks
 pub mod Sessions
 pub mod SessionLaws
+pub mod UntimedLaws
 pub mod ScanCalls
