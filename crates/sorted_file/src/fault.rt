@@ -66,7 +66,7 @@ impl From<Cut> for Fault {
 /// Why bytes were not opened.
 #[derive(Clone, Copy, Debug, PartialEq, Eq, Error)]
 pub enum OpenError {
-    /// The bytes are no image: the place of the first fault, count_entries from 0, and its cause.
+    /// The bytes are no image: the place of the first fault, counted from 0, and its cause.
     #[error("no image: {cause:?} at {at}")]
     Image { at: u64, cause: ImageCause },
     #[error("out of memory")]
