@@ -27,7 +27,7 @@ pub enum ImageCause {
 /// The first fault of bytes that are no image.
 #[derive(Clone, Copy, Debug, PartialEq, Eq)]
 pub struct Fault {
-    /// The place of the field's first byte, or of the entry's where its shared parts or its order are the cause, count_entries from
+    /// The place of the field's first byte, or of the entry's where its shared parts or its order are the cause, counted from
     /// 0.
     pub at: u64,
     pub cause: ImageCause,
