@@ -3,6 +3,7 @@ use Rattle.std.specs.Arc.{arc_value}
 use Rattle.std.specs.List.{filter}
 use Rattle.tablet_model.specs.Steps as model
 use Rattle.tablet_model.specs.Steps.{find_job}
+use Rattle.sorted_file.specs.Contents.{FileContents}
 use Rattle.compactor.specs.Compacted.{entries_made}
 use Rattle.tablet_view.specs.Snapshot.{after_major}
 use Rattle.tablet_core.specs.State.{Answers, CoreState, IsStandingCore}
@@ -38,7 +39,7 @@ returns-in-Ok-Some c =
       next = (c.self.view_is i).next + 1;
       jobs = (c.end.ensures ∙ ap (λ k. filter (λ u. not (eqb c.args.job u.job)) k.jobs) c.self.view_is) i;
     }) in
-    let count : c.count.result ≡ length (entries_made c.args.done.now) = c.count.ensures ∙ ap length (c.deref.ensures ∙ c.file.ensures) in
+    let count : c.count.result ≡ length (entries_made c.args.done.now) = c.count.ensures ∙ ap (λ (file : FileContents). length file.cells) c.deref.ensures ∙ ap length c.file.ensures in
     subst (λ (l : CoreState). Answers (model.finish c.args.job) c.args.self.now l (Some (model.finished c.args.job c.self.inside.next c.count.result))) (sym same)
     (subst (λ a. Answers (model.finish c.args.job) c.args.self.now (finished_core c.args.self.now c.args.job x.from (entries_made c.args.done.now)) (Some a)) (λ i. model.finished c.args.job (sym (ap (λ k. k.next) c.self.view_is) i) (sym count i))
     (made (model.finish c.args.job) c.args.self.now _ _ (finish_made c.args.self.now c.args.job x.from (entries_made c.args.done.now) x.found cells)))

@@ -1,6 +1,7 @@
 use Rattle.std.proofs.Common.{Some, ap, length, subst, sym, ◌+◌, ◌≡◌, ◌∙◌}
 use Rattle.std.specs.Arc.{arc_value}
 use Rattle.tablet_model.specs.Steps as model
+use Rattle.sorted_file.specs.Contents.{FileContents}
 use Rattle.compactor.specs.Compacted.{entries_made}
 use Rattle.tablet_steps.specs.ModelSteps.{model_refusal_of}
 use Rattle.tablet_core.specs.State.{Answers, CoreState, IsStandingCore}
@@ -30,7 +31,7 @@ pub returns-in-Ok : goal.returns-in-Ok
 unfolding flushed_core
 returns-in-Ok c =
     let same : record { view = arc_value c.in-Ok.view; next = c.self.inside.next + 1; jobs = c.self.inside.jobs } ≡ flushed_core c.args.self.now (entries_made c.args.done.now) = (λ i. record { view = c.in-Ok.ensures i; next = (c.self.view_is i).next + 1; jobs = (c.self.view_is i).jobs }) in
-    let count : c.count.result ≡ length (entries_made c.args.done.now) = c.count.ensures ∙ ap length (c.deref.ensures ∙ c.file.ensures) in
+    let count : c.count.result ≡ length (entries_made c.args.done.now) = c.count.ensures ∙ ap (λ (file : FileContents). length file.cells) c.deref.ensures ∙ ap length c.file.ensures in
     subst (λ (l : CoreState). Answers model.flush c.args.self.now l (Some (model.flushed c.self.inside.next c.count.result))) (sym same)
     (subst (λ a. Answers model.flush c.args.self.now (flushed_core c.args.self.now (entries_made c.args.done.now)) (Some a)) (λ i. model.flushed (sym (ap (λ k. k.next) c.self.view_is) i) (sym count i))
     (made model.flush c.args.self.now _ _ (flush_made c.args.self.now (entries_made c.args.done.now) c.in_default.ensures (made_of_frozen c.args.self.now (entries_made c.args.done.now) c.in_default.ensures c.requires.made))))
