@@ -1,6 +1,7 @@
 use Rattle.std.proofs.Common.{◌++◌, [], length, ap, ◌∙◌, subst, sym}
 use Rattle.std.specs.Arc.{arc_value}
 use Rattle.script_text.specs.Answers.{count_line, entry_lines}
+use Rattle.sorted_file.specs.Contents.{FileContents}
 use Rattle.tablet_io.specs.Streams.{IsFrontTaken, IsSent}
 use Rattle.tablet_io.proofs.Pieces.{sent_more}
 use Rattle.tablet_replay.proofs.Sends.{cut_off, failed, front_of_more, reply_ended, reply_failed}
@@ -36,7 +37,7 @@ returns-clause-text g c =
     let b = g.O.Sink.taken c.send_cells.new.output in
     let list = (arc_value c.args.file).cells in
     let count = count_line (length list) in
-    let is = c.in_ok-append_count.ensures ∙ ap (λ n. c.send_cells.new.text ++ count_line n) (c.count.ensures ∙ ap (λ file. length file.cells) c.deref.ensures) in
+    let is = c.in_ok-append_count.ensures ∙ ap (λ n. c.send_cells.new.text ++ count_line n) (c.count.ensures ∙ ap (λ (file : FileContents). length file.cells) c.deref.ensures) in
     reply_ended (entry_lines list ++ count) c.append_count.new.text a b (g.O.Sink.taken c.send_last.new.output) c.send_last.result
     (subst (IsSent (entry_lines list ++ count) a b) (sym is)
     (sent_more (entry_lines list) c.send_cells.new.text count a b
