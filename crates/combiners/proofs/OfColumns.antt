@@ -1,6 +1,6 @@
 -- Columns that are kept, listed, and sought from their start.
-use Rattle.std.proofs.Common.{◌≡◌, true, false, Option, Some, None, refl, sym, ap, ◌∙◌, arith, pos, Equal, Less, Greater, Ordering}
-use Rattle.std.specs.Ordering.{is_ge, is_eq, ordering_then, eq_by_cmp}
+use Rattle.std.proofs.Common.{◌≡◌, true, false, Option, Some, None, refl, sym, ap, ◌∙◌, pos, Equal, Less, Greater, Ordering}
+use Rattle.std.specs.Ordering.{is_ge, ordering_then, eq_by_cmp}
 use Rattle.std.proofs.lemmas.Cmp.{tied_itself}
 use Rattle.tablet_model.specs.Cell.{CellKey, Column, column_of}
 use Rattle.tablet_model.specs.Order.{column_cmp, key_cmp, time_cmp}

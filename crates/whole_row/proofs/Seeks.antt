@@ -1,5 +1,5 @@
 -- The pass over what is left, from a seek on.
-use Rattle.std.proofs.Common.{◌≡◌, Bool, true, false, not, ◌&&◌, cond, List, [], ◌∷◌, map, Option, None, refl, sym, ◌∙◌, ap, arith}
+use Rattle.std.proofs.Common.{◌≡◌, Bool, true, false, not, ◌&&◌, List, [], ◌∷◌, map, Option, None, refl, sym, ◌∙◌, ap, arith}
 use Rattle.std.specs.List.{AllByRecursion, filter}
 use Rattle.std.specs.Ordering.{is_gt, is_ge}
 use Rattle.std.proofs.lemmas.Cmp.{nat_list_cmp_total}
@@ -11,7 +11,7 @@ use Rattle.tablet_model.specs.Kept.{filter_beside}
 use Rattle.tablet_model.specs.Cuts.{Cut, Everything, Before, Behind, BeforeRow, BehindRow, is_behind, is_before, within, Span}
 use Rattle.tablet_model.specs.Rows.{same_row, leads_row, row_entry, whole_row, last_time}
 use Rattle.tablet_model.proofs.Orders.{above_exact, key_total}
-use Rattle.tablet_model.proofs.Sums.{all_weaker, Ascends-filter}
+use Rattle.tablet_model.proofs.Sums.{Ascends-filter}
 use Rattle.tablet_model.proofs.CutLemmas.{before_down, key_le, behind-GoesUp, ge_back, row_le}
 use Rattle.tablet_model.proofs.Risings.{filter_map_within, filter_in}
 use Rattle.tablet_model.proofs.Bools.{false-of-not}
