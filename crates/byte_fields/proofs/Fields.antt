@@ -5,7 +5,7 @@ use Rattle.std.proofs.lemmas.List.{take_at, drop_at, take-append-drop, length-ta
 use Rattle.std.proofs.lemmas.Nat.{be_bytes_2, be_bytes_4, be_bytes_8}
 use Rattle.byteorder.specs.Endian.{big_bytes, big_number}
 use Rattle.byteorder.specs.Numbers.{big_number-reads_back, big_from-lt}
-use Rattle.byte_fields.specs.Fields.{◌>>=◌, Unread, behind, bytes_at, number_at, told, sized_bytes, sized_at}
+use Rattle.byte_fields.specs.Fields.{◌>>=◌, Unread, behind, bytes_at, number_at, with_error, sized_bytes, sized_at}
 
 -- ---- steps that do not fail
 
@@ -30,7 +30,7 @@ module _ {E : Type 0} where
   pub ok_is : {A : Type 0} (x y : A) → done x ≡ done y → x ≡ y
   ok_is x y e = cc
 
-  pub told_ok : {A : Type 0} (error : ℕ → E) (r : Result A ℕ) (x : A) → told error r ≡ Ok x → r ≡ Ok x
+  pub told_ok : {A : Type 0} (error : ℕ → E) (r : Result A ℕ) (x : A) → with_error error r ≡ Ok x → r ≡ Ok x
   told_ok error (Ok y) x e = cc
   told_ok error (Err at) x e = absurd cc
 
@@ -89,8 +89,8 @@ Again-then {E} read next t s x y p q at rest =
     let place : (at + length t) + length s ≡ at + length (t ++ s) = omega (arith, length-append t s) in
     ap (λ (r : Result (_ × Unread) E). r >>= λ r. next r.0 r.1) regrouped ∙ q (at + length t) rest ∙ ap (λ (n : ℕ). Ok (y, spot n rest)) place
 
-pub told_again : {E A : Type 0} (error : ℕ → E) (read : Unread → Result (A × Unread) ℕ) (text : List ℕ) (x : A) → Again read text x → Again (λ u. told error (read u)) text x
-told_again error read text x p at rest = ap (told error) (p at rest)
+pub told_again : {E A : Type 0} (error : ℕ → E) (read : Unread → Result (A × Unread) ℕ) (text : List ℕ) (x : A) → Again read text x → Again (λ u. with_error error (read u)) text x
+told_again error read text x p at rest = ap (with_error error) (p at rest)
 
 -- ---- a field of some bytes
 
@@ -171,9 +171,9 @@ module _ {E : Type 0} (cut bad : ℕ → E) (n limit : ℕ) (wide : IsWide n lim
   pub sized_take : (u : Unread) (x : List ℕ × Unread) → IsBytes u.rest → sized_at cut bad n is_bad u ≡ Ok x
       → Takes u (sized_bytes n x.0) x.1 × (is_bad (length x.0) ≡ false) × (length x.0 < limit)
   sized_take u x fits e =
-      let s = bind_ok (told cut (number_at n u)) (λ size. cond (is_bad size.0) (Err (bad u.at)) (told cut (bytes_at size.0 size.1))) x e in
+      let s = bind_ok (with_error cut (number_at n u)) (λ size. cond (is_bad size.0) (Err (bad u.at)) (with_error cut (bytes_at size.0 size.1))) x e in
       let t = number_take n limit wide u s.0 fits (told_ok cut (number_at n u) s.0 s.1) in
-      let g = else_ok (is_bad s.0.0) (bad u.at) (told cut (bytes_at s.0.0 s.0.1)) x s.2 in
+      let g = else_ok (is_bad s.0.0) (bad u.at) (with_error cut (bytes_at s.0.0 s.0.1)) x s.2 in
       let b = bytes_take s.0.0 s.0.1 x t.0.rest_fits (told_ok cut (bytes_at s.0.0 s.0.1) x g.1) in
       let both = Takes-then u (big_bytes n s.0.0) s.0.1 x.0 x.1 t.0 b.0 in
       subst (λ (k : ℕ). Takes u (big_bytes n k ++ x.0) x.1 × (is_bad k ≡ false) × (k < limit)) (sym b.1) (both, g.0, t.1)

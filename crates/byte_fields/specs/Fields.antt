@@ -27,10 +27,10 @@ number_at n u = do
   bytes ← bytes_at n u
   Ok (big_number n bytes.0, bytes.1)
 
--- a reading whose error is told by more than its place
-abbrev pub told : {E A : Type 0} → (ℕ → E) → Result A ℕ → Result A E
-told error (Ok x) = Ok x
-told error (Err at) = Err (error at)
+-- a reading whose error says more than its place
+abbrev pub with_error : {E A : Type 0} → (ℕ → E) → Result A ℕ → Result A E
+with_error error (Ok x) = Ok x
+with_error error (Err at) = Err (error at)
 
 -- an error that is its place
 abbrev pub its_place : ℕ → ℕ
@@ -43,5 +43,5 @@ sized_bytes n bytes = big_bytes n (length bytes) ++ bytes
 -- how they are read: `cut` is the error of a field that is cut, `bad` that of a length that may not be
 abbrev pub sized_at : {E : Type 0} → (ℕ → E) → (ℕ → E) → ℕ → (ℕ → Bool) → Unread → Result (List ℕ × Unread) E
 sized_at cut bad n is_bad u = do
-  size ← told cut (number_at n u)
-  if is_bad size.0 then Err (bad u.at) else told cut (bytes_at size.0 size.1)
+  size ← with_error cut (number_at n u)
+  if is_bad size.0 then Err (bad u.at) else with_error cut (bytes_at size.0 size.1)

@@ -6,7 +6,7 @@ use Rattle.std.specs.Str.{bytes_eq}
 use Rattle.byteorder.specs.Endian.{big_bytes}
 use Rattle.tablet_model.specs.Limits.{max_part}
 use Rattle.tablet_model.specs.Cell.{CellKey, Cell}
-use Rattle.byte_fields.specs.Fields.{◌>>=◌, Unread, bytes_at, number_at, told, sized_at}
+use Rattle.byte_fields.specs.Fields.{◌>>=◌, Unread, bytes_at, number_at, with_error, sized_at}
 use Rattle.sorted_file.specs.Image.{magic, end_magic, neighbour, shared_parts, block_places}
 use Rattle.sorted_file.specs.Contents.{FileContents}
 use Rattle.iter_contract.specs.Following.{is_out_of_order}
@@ -24,7 +24,7 @@ fault cause at = record { at = at; cause = cause }
 
 -- the reading of a field, which is a fault of its length where it is cut
 abbrev pub whole_field : {A : Type 0} → Result A ℕ → Result A Fault
-whole_field reading = told (fault Length) reading
+whole_field reading = with_error (fault Length) reading
 
 -- a field that can only be these bytes
 unfoldable pub expected_at : ImageCause → List ℕ → Unread → Result Unread Fault
