@@ -5,7 +5,7 @@ ghost use Rattle.tablet_view.specs.Extending.{Extends};
 
 use crate::views::{grown, opened, session};
 use cell_key::{Entries, Families, NoMemory};
-use scan_session::{Fetched, Session, Still, Views};
+use scan_session::{Fetched, ScanCall, Session, Still, Views, drive};
 use std::alloc::Global;
 use std::sync::Arc;
 use std::test::Fail;
@@ -78,21 +78,23 @@ fn have_values(entries: &Entries, values: &[u8]) -> bool {
     true
 }
 
-/// Whether a fetch at two mutations gives one piece of these values, or none where there are none, and says so that it ends.
-fn is_given(fetched: &Fetched, values: &[u8], ended: bool) -> bool {
-    if fetched.ended != ended.then_some(2) || (values.is_empty() && !fetched.pieces.is_empty()) {
+/// What is given: some values, and whether it is the end.
+type Given = (&'static [u8], bool);
+
+/// Whether a fetch gives one piece of these values at a number of mutations, or none where there are none, and says so that
+/// it ends.
+fn is_given_at(fetched: &Fetched, n: u64, given: &Given) -> bool {
+    let (values, ended) = *given;
+    if fetched.ended != ended.then_some(n) || (values.is_empty() && !fetched.pieces.is_empty()) {
         return false;
     }
     for piece in fetched.pieces.as_slice() {
-        if piece.n != 2 || !have_values(&piece.entries, values) {
+        if piece.n != n || !have_values(&piece.entries, values) {
             return false;
         }
     }
     values.is_empty() || fetched.pieces.len() == 1
 }
-
-/// What is given: some values, and whether it is the end.
-type Given = (&'static [u8], bool);
 
 fn fetch_gives(
     alloc: Global,
@@ -102,7 +104,7 @@ fn fetch_gives(
 ) -> Result<bool, NoMemory> {
     let mut views = Still::new();
     let fetched = session.fetch(alloc, &mut views, count.max(1))?;
-    Ok(is_given(&fetched, given.0, given.1))
+    Ok(is_given_at(&fetched, 2, given))
 }
 
 /// Whether fetches, one after another, give this.
@@ -200,7 +202,7 @@ fn fetch_gives_all(
         return Ok(false);
     }
     let fetched = session.fetch(alloc, shown, 3)?;
-    Ok(is_given(&fetched, b"xyz", true))
+    Ok(is_given_at(&fetched, 2, &(b"xyz", true)))
 }
 
 /// Whether a fetch of a session over a view looks once at a newer one.
@@ -218,5 +220,48 @@ fn a_fetch_looks_once_for_a_newer_view(rt: HostRuntime) -> Result<(), Fail> {
     let first = first(rt.alloc())?;
     let second = second(rt.alloc(), &first)?;
     assert!(rt; looks_once(rt.alloc(), &first, second)?);
+    Ok(())
+}
+
+/// What a scanner's calls give: a fetch of one entry over one mutation, then nothing of a renewal and a teardown, and then the
+/// rest over two mutations.
+const BESIDE_A_LOADER: &[(u64, Given)] = &[
+    (1, (b"x", false)),
+    (2, (b"", false)),
+    (2, (b"", false)),
+    (2, (b"yz", true)),
+];
+
+fn are_given(all: &[Fetched], given: &[(u64, Given)]) -> bool {
+    if all.len() != given.len() {
+        return false;
+    }
+    for (fetched, each) in all.iter().zip(given) {
+        if !is_given_at(fetched, each.0, &each.1) {
+            return false;
+        }
+    }
+    true
+}
+
+/// Whether a scanner over a view that goes on over a second one is given each entry once.
+fn scanner_is_given(alloc: Global, first: &Arc<View>, second: Arc<View>) -> Result<bool, NoMemory> {
+    let mut session = session(alloc, first, &Families::all(), false)?;
+    let mut views = Still::new();
+    let calls = [
+        ScanCall::Fetch(1),
+        ScanCall::RenewTo(second),
+        ScanCall::DropStack,
+        ScanCall::Fetch(9),
+    ];
+    let given = drive(alloc, &mut session, &mut views, &calls)?;
+    Ok(are_given(given.as_slice(), BESIDE_A_LOADER))
+}
+
+#[test]
+fn a_scanner_beside_a_loader_is_given_each_entry_once(rt: HostRuntime) -> Result<(), Fail> {
+    let first = first(rt.alloc())?;
+    let second = second(rt.alloc(), &first)?;
+    assert!(rt; scanner_is_given(rt.alloc(), &first, second)?);
     Ok(())
 }
