@@ -1,5 +1,5 @@
 -- The checks of mutations by what a configuration says. All of this is this project's own.
-use Rattle.std.specs.Prelude.{ℕ, Bool, cond, not, ◌&&◌, ◌||◌, List, [], nat_lt, Option, Some, None, is_some, unwrap_or, option_map}
+use Rattle.std.specs.Prelude.{ℕ, Bool, cond, not, ◌&&◌, ◌||◌, [], nat_lt, Option, Some, None, is_some, unwrap_or, option_map}
 use Rattle.std.specs.Option.{option_or}
 use Rattle.tablet_model.specs.Limits.{max_mutations}
 use Rattle.tablet_model.specs.History.{Change, RowChange, is_delete}

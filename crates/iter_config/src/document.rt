@@ -104,7 +104,10 @@ fn in_order(priorities: &[u32], iterators: Vec<IterSpec>) -> Result<Vec<IterSpec
 
 /// The iterators of a configuration, from those that stand in a document.
 #[tactic(auto, unfolding(crate::specs::Document::config_of_iterators))]
-fn config_of_iterators(alloc: Global, iterators: Vec<IterSpec>) -> Result<Vec<IterSpec>, ConfigError>
+fn config_of_iterators(
+    alloc: Global,
+    iterators: Vec<IterSpec>,
+) -> Result<Vec<IterSpec>, ConfigError>
     requires few { length iterators.items ≤ MAX_ITERATORS }
     requires limits { All AreFields iterators.items }
     ensures iterators { Reads (λ v. v.items) (config_of_iterators iterators.items) result }

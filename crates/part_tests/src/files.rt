@@ -171,7 +171,10 @@ fn damaged_numbers_of_shared_parts_are_refused(rt: HostRuntime) -> Result<(), No
         (32, 5, 32, ImageCause::Bound),
     ];
     for (i, (place, byte, at, cause)) in damages.iter().enumerate() {
-        assert!(rt; is_new_damaged(rt.alloc(), *place, *byte, *at, *cause)?, "{i}");
+        assert!(rt;
+            is_new_damaged(rt.alloc(), *place, *byte, *at, *cause)?,
+            "{i}"
+        );
     }
     Ok(())
 }

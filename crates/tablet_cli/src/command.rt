@@ -16,7 +16,8 @@ use tablet_replay::ReplyError;
 /// How many bytes an input has at the most.
 pub const MAX_INPUT: usize = 8_388_608;
 
-const USAGE: &[u8] = b"usage: replay | live SCANNERS CHUNK BATCH | pack | show | gen START SIZE | upgrade\n";
+const USAGE: &[u8] =
+    b"usage: replay | live SCANNERS CHUNK BATCH | pack | show | gen START SIZE | upgrade\n";
 
 /// Reads an input to its end, and writes what a command makes of it.
 fn perform<I: Source, O: Sink>(

@@ -14,7 +14,8 @@ const SCRIPT: &[u8] = b"%%\nm r1 +a:x:=1\nscan\n";
 
 const ANSWERS: &[u8] = b"m 1\nat 1\nr1 a:x: @1 =1\nend 1\n";
 
-const USAGE: &[u8] = b"usage: replay | live SCANNERS CHUNK BATCH | pack | show | gen START SIZE | upgrade\n";
+const USAGE: &[u8] =
+    b"usage: replay | live SCANNERS CHUNK BATCH | pack | show | gen START SIZE | upgrade\n";
 
 /// How many bytes a call of a source or a sink moves, and which call fails; none has the number 0.
 type Port = (usize, u64);

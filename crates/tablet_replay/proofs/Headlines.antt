@@ -7,14 +7,12 @@ use Rattle.std.proofs.lemmas.List.{take-append-le}
 use Rattle.tablet_model.specs.Cell.{Cell}
 use Rattle.tablet_model.specs.History.{RowChange}
 use Rattle.tablet_model.specs.Ingest.{ingest}
-
 use Rattle.tablet_model.specs.Steps.{Event, apply, freeze, flush, compact, compact_all, finish, store_after}
 use Rattle.tablet_model.specs.Store.{Store}
 use Rattle.tablet_model.proofs.Merges.{all_append}
 use Rattle.tablet_model.proofs.Sums.{all_weaker}
 use Rattle.iter_config.specs.RulesOf.{rules_of}
 use Rattle.iter_config.specs.Settings.{Settings}
-
 use Rattle.scan_session.specs.Walks.{Walks, end_of, fetch_pieces}
 use Rattle.scan_session.specs.declared.piece.Piece.{Piece}
 use Rattle.scan_session.proofs.Walking.{fetches_are_walks, walks_bounded, walks_join, walks_lower, walks_on}

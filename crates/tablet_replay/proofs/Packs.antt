@@ -16,7 +16,6 @@ use Rattle.tablet_model.proofs.Merges.{all_sorted}
 use Rattle.tablet_model.proofs.Orders.{above_exact}
 use Rattle.tablet_model.proofs.Sums.{sorted_same}
 use Rattle.iter_config.specs.RulesOf.{rules_of}
-
 use Rattle.compactor.specs.FileValues.{HasShortValue}
 use Rattle.compactor.proofs.Stored.{usage_short}
 use Rattle.iter_stack.specs.Usages.{usage_cells}

@@ -3,7 +3,6 @@ use Rattle.std.proofs.Common.{◌≡◌, ◌==◌, ℕ, Bool, cond, List, [], �
 use Rattle.std.specs.Prelude.{flat_map, is_some, position, remove, slice_set, IsSomeAnd, OnOk, Result, Ok, Err}
 use Rattle.std.proofs.lemmas.List.{map-append}
 use Rattle.tablet_model.specs.Cuts.{Span}
-
 use Rattle.tablet_model.specs.Ingest.{ingest}
 use Rattle.tablet_model.specs.History.{RowChange}
 use Rattle.tablet_model.specs.Steps.{Event, StepAnswer, apply, freeze, flush, compact, compact_all, finish, log_after}
@@ -12,8 +11,6 @@ use Rattle.iter_config.specs.RulesOf.{rules_of}
 use Rattle.iter_config.specs.Settings.{Settings}
 use Rattle.compactor.specs.Jobs.{job_of}
 use Rattle.compactor.specs.declared.job_state.JobState.{JobState}
-
-
 use Rattle.tablet_steps.specs.Texts.{refusal_line}
 use Rattle.script_text.specs.SessionAnswers.{opened_line}
 use Rattle.script_text.specs.declared.line.SessionStep.TheVariants as step

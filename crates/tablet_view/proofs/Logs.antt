@@ -7,7 +7,7 @@ use Rattle.tablet_model.specs.Cell.{Cell}
 use Rattle.tablet_model.specs.History.{Change, RowChange, entries_of, entry_of, is_delete}
 use Rattle.tablet_model.specs.Ingest.{ingest}
 use Rattle.tablet_model.proofs.Sums.{all_weaker}
-use Rattle.stage_laws.proofs.LetIn.{IsFound, IsLetIn, found}
+use Rattle.stage_laws.proofs.LetIn.{IsLetIn, found}
 use Rattle.iter_config.specs.Columns.{is_timed, one_refuses, refuses_delete}
 use Rattle.iter_config.specs.RulesOf.{rules_of}
 use Rattle.iter_config.specs.Settings.{Settings}

@@ -1,6 +1,5 @@
 use Rattle.std.proofs.Common.{Some, ◌≡◌, true, false, is_some, None, sym, ap, ◌∙◌}
 use Rattle.tablet_model.specs.Steps as model
-
 use Rattle.tablet_core.specs.Jobs.{flush_of}
 use Rattle.tablet_steps.specs.ModelSteps.{model_refusal_of}
 use Rattle.tablet_core.proofs.Flushes.{flush_frozen, job_flushes}

@@ -1,10 +1,10 @@
-use Rattle.std.proofs.Common.{◌≡◌, ◌≤◌, ◌∙◌, None, ap, arith, length, subst, sym}
+use Rattle.std.proofs.Common.{◌≡◌, ◌∙◌, None, ap, arith, length, subst, sym}
 use Rattle.std.proofs.lemmas.Grind.{common_steps}
 use Rattle.std.proofs.lemmas.List.{length-map}
 use Rattle.tablet_model.specs.History.{entry_of}
 use Rattle.tablet_model.specs.Ingest.{ingest, out_of_bounds}
 use Rattle.tablet_model.proofs.Ingests.{inside, none_first, room_left}
-use Rattle.cell_key.specs.Mutations.{change_of, row_change_of}
+use Rattle.cell_key.specs.Mutations.{row_change_of}
 use Rattle.cell_key.specs.declared.mutation.Mutation.{Mutation}
 use Rattle.iter_config.specs.RulesOf.{rules_of}
 use Rattle.tablet_view.specs.LogParts.{mutation_in}
