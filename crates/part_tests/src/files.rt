@@ -179,21 +179,30 @@ fn damaged_numbers_of_shared_parts_are_refused(rt: HostRuntime) -> Result<(), No
     Ok(())
 }
 
-/// For a cut after so many bytes, the place of the first field that it lacks.
+/// For a cut of the image in version 1 after so many bytes, the place of the first field that it lacks.
 const LACKS: [u64; 53] = [
     0, 0, 0, 0, 4, 5, 5, 7, 7, 9, 9, 11, 12, 12, 14, 15, 15, 17, 17, 17, 17, 17, 17, 17, 17, 25,
     26, 26, 26, 26, 30, 31, 31, 33, 33, 33, 33, 33, 33, 33, 33, 41, 41, 41, 41, 41, 41, 41, 41, 49,
     49, 49, 49,
 ];
 
+/// The same of the image in version 2.
+const NEW_LACKS: [u64; 53] = [
+    0, 0, 0, 0, 4, 5, 6, 6, 8, 8, 10, 10, 12, 13, 13, 15, 16, 16, 18, 18, 18, 18, 18, 18, 18, 18,
+    26, 27, 27, 27, 27, 31, 32, 33, 33, 33, 33, 33, 33, 33, 33, 41, 41, 41, 41, 41, 41, 41, 41, 49,
+    49, 49, 49,
+];
+
 #[test]
 fn cut_images_are_refused(rt: HostRuntime) -> Result<(), NoMemory> {
-    for (length, at) in LACKS.iter().enumerate() {
-        let cut = &ONE[..length];
-        assert!(rt;
-            is_refused(rt.alloc(), cut, *at, ImageCause::Length)?,
-            "{length}"
-        );
+    for (image, lacks) in [(&ONE, &LACKS), (&NEW_ONE, &NEW_LACKS)] {
+        for (length, at) in lacks.iter().enumerate() {
+            let cut = &image[..length];
+            assert!(rt;
+                is_refused(rt.alloc(), cut, *at, ImageCause::Length)?,
+                "{length}"
+            );
+        }
     }
     Ok(())
 }

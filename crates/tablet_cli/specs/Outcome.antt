@@ -42,6 +42,10 @@ WasRead i bytes = (length bytes ≤ max_input) × (i.after ≡ Some [])
 abbrev pub WasTooLong : Port → List ℕ → Type 0
 WasTooLong i bytes = (n : ℕ) × (max_input < n) × Took n bytes i.after
 
+-- no more bytes than an input may have were taken
+abbrev pub WasNotTooLong : Port → List ℕ → Type 0
+WasNotTooLong i bytes = (n : ℕ) × (n ≤ max_input) × Took n bytes i.after
+
 -- a text was appended to what the sink had taken
 abbrev pub IsWritten : Port → List ℕ → Type 0
 IsWritten o text = IsTaken text o.before o.after
@@ -54,9 +58,9 @@ IsFrontWritten o text = IsFrontTaken text o.before o.after
 -- end is theirs, unless a fault or want of memory comes between: then nothing was written, or the first bytes of the text
 abbrev pub Answers : (List ℕ → List ℕ) → (List ℕ → Status) → Port → Port → Status → Type 0
 Answers text end i o WriteFault = HasFault o × IfSome i.before (λ bytes. WasRead i bytes × IsFrontWritten o (text bytes))
-Answers text end i o ReadFault = HasFault i × IsUntouched o
+Answers text end i o ReadFault = HasFault i × IfSome i.before (WasNotTooLong i) × IsUntouched o
 Answers text end i o TooLong = IfSome i.before (WasTooLong i) × IsUntouched o
-Answers text end i o NoMemory = IsUntouched o ⊎ IfSome i.before (λ bytes. WasRead i bytes × IsFrontWritten o (text bytes))
+Answers text end i o NoMemory = (IfSome i.before (WasNotTooLong i) × IsUntouched o) ⊎ IfSome i.before (λ bytes. WasRead i bytes × IsFrontWritten o (text bytes))
 Answers text end i o Usage = ⊥
 Answers text end i o status = IfSome i.before (λ bytes. WasRead i bytes × (end bytes ≡ status) × IsWritten o (text bytes))
 

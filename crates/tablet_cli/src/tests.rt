@@ -10,9 +10,23 @@ use std::sync::Wait;
 use std::thread::Threads;
 use tablet_io::{Calls, MemSink, MemSource, OpenGate};
 
-const SCRIPT: &[u8] = b"%%\nm r1 +a:x:=1\nscan\n";
+/// A script, and the answers to it.
+#[derive(Clone, Copy)]
+struct Row {
+    script: &'static [u8],
+    answers: &'static [u8],
+}
 
-const ANSWERS: &[u8] = b"m 1\nat 1\nr1 a:x: @1 =1\nend 1\n";
+const SCAN: Row = Row {
+    script: b"%%\nm r1 +a:x:=1\nscan\n",
+    answers: b"m 1\nat 1\nr1 a:x: @1 =1\nend 1\n",
+};
+
+/// A session that is torn down, and renewed between two columns of a row.
+const SESSION: Row = Row {
+    script: b"[[iterator]]\nname = \"sum\"\npriority = 10\nkind = \"sum\"\ncolumns = [\"n\"]\nencoding = \"string\"\nscopes = [\"scan\", \"minc\", \"majc\"]\n%%\nm r1 +n:c:=5\nm r1 +n:c:=7\nm r1 +n:d:=1 +n:e:=2\nopen s1\nfetch s1 1\ndrop s1\nfetch s1 1\nm r1 +n:d:=3\nrenew s1\nfetch s1 1\n",
+    answers: b"m 1\nm 2\nm 3\nopen s1 3\nat 3\nr1 n:c: @2 =12\nmore\ndrop s1\nat 3\nr1 n:d: @3 =1\nmore\nm 4\nrenew s1 4\nat 4\nr1 n:e: @3 =2\nend 4\n",
+};
 
 const USAGE: &[u8] =
     b"usage: replay | live SCANNERS CHUNK BATCH | pack | show | gen START SIZE | upgrade\n";
@@ -20,11 +34,11 @@ const USAGE: &[u8] =
 /// How many bytes a call of a source or a sink moves, and which call fails; none has the number 0.
 type Port = (usize, u64);
 
-/// The script at a port.
-fn script(alloc: Global, port: Port) -> Result<MemSource, NoMemory>
+/// A script at a port.
+fn source(alloc: Global, script: &[u8], port: Port) -> Result<MemSource, NoMemory>
     requires { 1 ≤ port.0 }
 {
-    let bytes = ByteText::of(alloc, SCRIPT)?;
+    let bytes = ByteText::of(alloc, script)?;
     let failing = Calls::of(alloc, &[port.1])?;
     Ok(MemSource::new(bytes, port.0, failing))
 }
@@ -47,9 +61,10 @@ fn ends(
     replay(alloc, input, output) == status && output.bytes() == text
 }
 
-/// Whether a replay of the script between two ports ends so, and this is what was written.
+/// Whether a replay of a script between two ports ends so, and this is what was written.
 fn script_ends(
     alloc: Global,
+    script: &[u8],
     read: Port,
     written: Port,
     status: Status,
@@ -58,18 +73,66 @@ fn script_ends(
     requires read { 1 ≤ read.0 }
     requires written { 1 ≤ written.0 }
 {
-    let mut input = script(alloc, read)?;
+    let mut input = source(alloc, script, read)?;
     let mut output = sink(alloc, written)?;
     Ok(ends(alloc, &mut input, &mut output, status, text))
 }
 
 #[test]
-fn faults_have_their_status(rt: HostRuntime) -> Result<(), NoMemory> {
-    assert!(rt; script_ends(rt.alloc(), (1, 0), (7, 0), Status::Done, ANSWERS)?);
-    assert!(rt; script_ends(rt.alloc(), (9, 1), (1000, 0), Status::ReadFault, b"")?);
-    assert!(rt; script_ends(rt.alloc(), (9, 2), (1000, 0), Status::ReadFault, b"")?);
-    assert!(rt; script_ends(rt.alloc(), (9, 0), (1000, 1), Status::WriteFault, b"")?);
-    assert!(rt; script_ends(rt.alloc(), (9, 0), (3, 2), Status::WriteFault, b"m 1")?);
+fn each_read_may_fail(rt: HostRuntime) -> Result<(), NoMemory> {
+    for row in [SCAN, SESSION] {
+        // Each byte is read by a call of its own, and one call more finds the end.
+        for call in 1..row.script.len() as u64 + 2 {
+            assert!(rt;
+                script_ends(
+                    rt.alloc(),
+                    row.script,
+                    (1, call),
+                    (7, 0),
+                    Status::ReadFault,
+                    b""
+                )?,
+                "{call}"
+            );
+        }
+        assert!(rt;
+            script_ends(
+                rt.alloc(),
+                row.script,
+                (1, 0),
+                (7, 0),
+                Status::Done,
+                row.answers
+            )?
+        );
+    }
+    Ok(())
+}
+
+/// What the first calls of a sink take that takes seven bytes at a call.
+fn front(text: &[u8], calls: usize) -> &[u8] {
+    &text[..calls.saturating_mul(7).min(text.len())]
+}
+
+#[test]
+fn each_write_may_fail(rt: HostRuntime) -> Result<(), NoMemory> {
+    for row in [SCAN, SESSION] {
+        for calls in 0..row.answers.len().div_ceil(7) {
+            let written = front(row.answers, calls);
+            let failing = calls as u64 + 1;
+            assert!(rt;
+                script_ends(
+                    rt.alloc(),
+                    row.script,
+                    (9, 0),
+                    (7, failing),
+                    Status::WriteFault,
+                    written
+                )?,
+                "{failing}"
+            );
+        }
+    }
     Ok(())
 }
 
@@ -151,7 +214,7 @@ fn runs<R: Threads + Wait + Sync + AllocGlobal>(
     status: Status,
     text: &[u8],
 ) -> Result<bool, NoMemory> {
-    let mut input = script(rt.alloc(), (9, 0))?;
+    let mut input = source(rt.alloc(), SCAN.script, (9, 0))?;
     let mut output = sink(rt.alloc(), (1000, 0))?;
     let ended = run(rt, rt.alloc(), words, &mut input, &mut output, &OpenGate);
     Ok(ended == status && output.bytes() == text)

@@ -7,3 +7,4 @@ pub mod FilesAt
 pub mod Starts
 pub mod Finishes
 pub mod Staying
+pub mod Turning

@@ -2,3 +2,4 @@ pub mod State
 pub mod Jobs
 pub mod CoreLaws
 pub mod Status
+pub mod Turns

@@ -12,5 +12,6 @@ mod view;
 mod view_source;
 
 pub use apply_error::ApplyError;
+pub use ingest::Refused;
 pub use view::View;
 pub use view_source::ViewSource;
