@@ -1,5 +1,5 @@
 -- Where the first of some entries may be parted from the next one.
-use Rattle.std.proofs.Common.{◌≡◌, ℕ, ◌<◌, not, List, [], ◌∷◌, length, refl, arith}
+use Rattle.std.proofs.Common.{◌≡◌, ◌<◌, not, List, [], ◌∷◌, length, refl, arith}
 use Rattle.tablet_model.specs.Cell.{Cell}
 use Rattle.tablet_model.specs.Sorted.{later}
 use Rattle.source_switch.specs.Parting.{Mode, plain, isolated, together, behind, may_part, begins_at, place_behind_first}

@@ -1,5 +1,5 @@
 -- What a `SwitchIter` has, by what its stack has, and what its steps do. All of this is this project's own.
-use Rattle.std.specs.Prelude.{◌≡◌, ℕ, ◌<◌, ◌≤◌, true, cond, List, [], ◌∷◌}
+use Rattle.std.specs.Prelude.{◌≡◌, ℕ, ◌<◌, ◌≤◌, true, cond, List, []}
 use Rattle.tablet_model.specs.Cell.{Cell}
 use Rattle.tablet_model.specs.Cuts.{Span, within}
 use Rattle.tablet_model.specs.Places.{after}

@@ -1,4 +1,4 @@
-use Rattle.std.proofs.Common.{◌≡◌, [], ◌∙◌, ap, List, is_ok, if◌then◌else◌}
+use Rattle.std.proofs.Common.{[], ◌∙◌, ap, List, is_ok, if◌then◌else◌}
 use Rattle.tablet_model.specs.Cell.{Cell}
 use Rattle.tablet_model.specs.Cuts.{within}
 use Rattle.tablet_model.specs.Places.{after}
