@@ -2,3 +2,4 @@ pub mod Jobs
 pub mod FileValues
 pub mod PartCells
 pub mod Compacted
+pub mod Plans

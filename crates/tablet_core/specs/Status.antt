@@ -4,7 +4,7 @@ use Rattle.tablet_model.specs.Sorted.{sorted}
 use Rattle.tablet_model.specs.Store.{File}
 use Rattle.compactor.specs.Jobs.{is_behind, job_of}
 use Rattle.tablet_core.specs.State.{CoreState}
-use Rattle.tablet_core.specs.declared.status.FileCount.{FileCount}
+use Rattle.compactor.specs.declared.file_sets.FileCount.{FileCount}
 use Rattle.tablet_core.specs.declared.status.StoreStatus.{StoreStatus}
 
 -- a file's number, and how many entries it has

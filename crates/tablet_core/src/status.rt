@@ -1,13 +1,6 @@
 //! What a store has, as it is told.
 use cell_key::Items;
-use compactor::JobStates;
-
-/// A file's number, and how many entries it has.
-#[derive(Clone, Copy, Debug, PartialEq, Eq)]
-pub struct FileCount {
-    pub id: u64,
-    pub count: u64,
-}
+use compactor::{FileCount, JobStates};
 
 /// Files, in the order of their numbers.
 pub type FileCounts = Items<FileCount>;

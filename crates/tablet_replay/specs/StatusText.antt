@@ -4,7 +4,7 @@ use Rattle.compactor.specs.declared.job_state.JobState.{JobState}
 use Rattle.scan_session.specs.declared.piece.Piece.{Piece}
 use Rattle.script_text.specs.Answers.{at_line, entry_lines}
 use Rattle.script_text.specs.StatusAnswers.{file_line, frozen_line, job_line, log_line, memory_line}
-use Rattle.tablet_core.specs.declared.status.FileCount.{FileCount}
+use Rattle.compactor.specs.declared.file_sets.FileCount.{FileCount}
 use Rattle.tablet_core.specs.declared.status.StoreStatus.{StoreStatus}
 
 -- the lines of files

@@ -3,8 +3,9 @@ ghost use Rattle.std.specs.Prelude.{◌≡◌, map, IfOk};
 ghost use Rattle.tablet_core.specs.Status.{IsStatusOf, count_of};
 
 use super::Core;
-use crate::status::{FileCount, FileCounts, StoreStatus};
+use crate::status::{FileCounts, StoreStatus};
 use cell_key::NoMemory;
+use compactor::FileCount;
 use std::alloc::Global;
 use tablet_view::View;
 

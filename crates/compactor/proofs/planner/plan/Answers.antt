@@ -1,0 +1,20 @@
+use Rattle.std.proofs.Common.{rules, ◌≡◌, ◌≤◌, length, Some, arith, sym, ap, ◌∙◌}
+use Rattle.compactor.specs.Plans.{even_set, set_of}
+use Rattle.compactor.proofs.Plans.{few_set, none_chosen, some_chosen}
+use Rattle.compactor.proofs.planner.plan.Goals as goal
+
+pub returns-then-is_empty : goal.returns-then-is_empty
+returns-then-is_empty c =
+    let none : length c.set_of-set.result.now ≡ 0 = search rules in
+    sym (none_chosen c.args.files.now c.as_slice.result.now c.set_of-set.result.now (c.as_slice.ensures.value ∙ c.by_size-order.ensures) c.set_of-set.ensures none)
+
+pub numbers-requires : goal.numbers-requires
+numbers-requires c =
+    let few : length c.as_slice.result.now ≤ 64 = c.as_slice.ensures.fits in
+    omega (arith, few, few_set c.as_slice.result.now, ap length c.set_of-set.ensures)
+
+pub returns : goal.returns
+returns c =
+    ap Some c.numbers.ensures
+    ∙ some_chosen c.args.files.now c.as_slice.result.now c.set_of-set.result.now (c.as_slice.ensures.value ∙ c.by_size-order.ensures) c.set_of-set.ensures
+    (λ none. search rules)

@@ -1,0 +1,35 @@
+//! Files by their sizes, and the files that a compaction takes.
+ghost use Rattle.std.specs.Prelude.{◌≡◌};
+
+use arrayvec::ArrayVec;
+use std::marker::Model;
+
+/// A file's number, and how many entries it has.
+#[derive(Clone, Copy, Debug, Default, PartialEq, Eq)]
+pub struct FileCount {
+    pub id: u64,
+    pub count: u64,
+}
+
+/// The numbers of the files that a compaction takes: at least two, ascending. Contracts see the list.
+#[derive(Drop)]
+pub struct Plan {
+    pub(crate) ids: ArrayVec<u64, 64>,
+}
+
+impl Model for Plan {
+    ghost use Rattle.std.specs.Prelude.{ℕ, List};
+
+    ghost Value = { List ℕ };
+
+    ghost view = { λ plan. plan.ids.items };
+}
+
+impl Plan {
+    /// The numbers. It takes no memory.
+    pub fn ids(&self) -> &[u64]
+        ensures { result.now ≡ self.now }
+    {
+        self.ids.as_slice()
+    }
+}
