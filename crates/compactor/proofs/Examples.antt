@@ -1,5 +1,5 @@
 -- Which files are taken, in worked cases.
-use Rattle.std.proofs.Common.{◌≡◌, ℕ, List, [], ◌∷◌, Option, Some, None, refl}
+use Rattle.std.proofs.Common.{◌≡◌, ℕ, List, [], ◌∷◌, Some, None, refl}
 use Rattle.tablet_model.specs.Sorted.{put, sorted}
 use Rattle.cell_key.specs.FileNumbers.{with_number}
 use Rattle.compactor.specs.declared.file_sets.FileCount.{FileCount}

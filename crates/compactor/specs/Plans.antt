@@ -1,7 +1,7 @@
 -- Which files the next major compaction takes. The ratio of three is that of Accumulo 2.1 (manual, "Compactions", and the property
 -- table.compaction.major.ratio): a set of files is compacted where its largest file has at most a third of what they have together.
 -- Sizes are counts of entries here, and which set is taken, and what happens beyond 15 files, is this project's own.
-use Rattle.std.specs.Prelude.{ℕ, ◌*◌, ◌-◌, Bool, true, false, cond, List, [], ◌∷◌, length, map, drop, nat_lt, nat_le, Option, Some, None}
+use Rattle.std.specs.Prelude.{ℕ, ◌*◌, ◌-◌, Bool, false, cond, List, [], ◌∷◌, length, map, drop, nat_lt, nat_le, Option, Some, None}
 use Rattle.std.specs.List.{sum_by}
 use Rattle.std.specs.Ordering.{is_gt, nat_cmp, ordering_then}
 use Rattle.std.specs.declared.cmp.Ordering.{Ordering}

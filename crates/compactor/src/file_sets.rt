@@ -1,5 +1,6 @@
 //! Files by their sizes, and the files that a compaction takes.
 ghost use Rattle.std.specs.Prelude.{◌≡◌};
+ghost use Rattle.cell_key.specs.FileNumbers.{AreAscending};
 
 use arrayvec::ArrayVec;
 use std::marker::Model;
@@ -19,16 +20,20 @@ pub struct Plan {
 
 impl Model for Plan {
     ghost use Rattle.std.specs.Prelude.{ℕ, List};
+    ghost use Rattle.cell_key.specs.FileNumbers.{AreAscending};
 
     ghost Value = { List ℕ };
 
     ghost view = { λ plan. plan.ids.items };
+
+    ghost invariant = { λ plan. AreAscending plan.ids.items };
 }
 
 impl Plan {
-    /// The numbers. It takes no memory.
+    /// The numbers, ascending. It takes no memory.
     pub fn ids(&self) -> &[u64]
-        ensures { result.now ≡ self.now }
+        ensures ids { result.now ≡ self.now }
+        ensures ascend { AreAscending self.now }
     {
         self.ids.as_slice()
     }

@@ -27,8 +27,8 @@ impl Core {
         Ok(Arc::new(alloc, view).map_err(NoMemory::from)?)
     }
 
-    /// A mutation comes in.
-    pub(super) fn apply(&mut self, alloc: Global, mutation: &Mutation) -> Answer
+    /// A mutation comes in, or is refused and changes nothing, as a step by `Event::Apply` does. Without memory nothing is changed.
+    pub fn apply(&mut self, alloc: Global, mutation: &Mutation) -> Answer
         requires { self.old.view.version < 2 ^ 63 }
         ensures { Answers (model.apply (row_change_of mutation.now)) self.old self.new (model_answer_of result) }
     {

@@ -1,4 +1,4 @@
-use Rattle.std.proofs.Common.{◌≡◌, ◌∙◌, List, ℕ, nat_cmp, get_or, length, map, take, subst, sym, ap, arith}
+use Rattle.std.proofs.Common.{◌∙◌, List, ℕ, nat_cmp, get_or, length, map, take, subst, sym, ap, arith}
 use Rattle.std.proofs.lemmas.Result.{MatchResult-at_err, MatchResult-at_ok}
 use Rattle.std.specs.List.Sorted.{IsBinarySearchResult}
 use Rattle.cell_key.specs.FileNumbers.{AreAscending}

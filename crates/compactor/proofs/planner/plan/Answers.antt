@@ -1,5 +1,6 @@
-use Rattle.std.proofs.Common.{rules, ◌≡◌, ◌≤◌, length, Some, arith, sym, ap, ◌∙◌}
-use Rattle.compactor.specs.Plans.{even_set, set_of}
+use Rattle.std.proofs.Common.{rules, ◌≡◌, ◌≤◌, length, Some, arith, sym, ap, subst, map, ◌∙◌}
+use Rattle.cell_key.specs.FileNumbers.{AreAscending}
+use Rattle.cell_key.proofs.Gathered.{ascends_gathered}
 use Rattle.compactor.proofs.Plans.{few_set, none_chosen, some_chosen}
 use Rattle.compactor.proofs.planner.plan.Goals as goal
 
@@ -18,3 +19,6 @@ returns c =
     ap Some c.numbers.ensures
     ∙ some_chosen c.args.files.now c.as_slice.result.now c.set_of-set.result.now (c.as_slice.ensures.value ∙ c.by_size-order.ensures) c.set_of-set.ensures
     (λ none. search rules)
+
+pub invariant_of-result : goal.invariant_of-result
+invariant_of-result c = subst AreAscending (sym c.numbers.ensures) (ascends_gathered (map (λ f. f.id) c.set_of-set.result.now))
