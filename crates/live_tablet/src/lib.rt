@@ -1,0 +1,14 @@
+//! A tablet that is published to readers while a loader works: readers look at views that only ever go on, and wait for nobody.
+#![tactic(auto)]
+
+mod extending;
+mod loader;
+mod opening;
+mod published;
+mod reader;
+mod seats;
+
+pub use extending::extends;
+pub use loader::Loader;
+pub use opening::{Readers, open};
+pub use reader::{LiveReader, Note};
