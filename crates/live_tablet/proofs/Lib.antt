@@ -1,1 +1,4 @@
 pub mod Rules
+pub mod Bounds
+pub mod Scans
+pub mod Scanners

@@ -1,2 +1,4 @@
 pub mod Rules
 pub mod States
+pub mod Scans
+pub mod Scanners

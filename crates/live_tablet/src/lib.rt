@@ -6,9 +6,13 @@ mod loader;
 mod opening;
 mod published;
 mod reader;
+mod scan;
+mod scanner;
 mod seats;
 
 pub use extending::extends;
 pub use loader::Loader;
 pub use opening::{Readers, open};
 pub use reader::{LiveReader, Note};
+pub use scan::Scan;
+pub use scanner::Scanner;
