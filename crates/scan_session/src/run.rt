@@ -2,13 +2,14 @@
 ghost use Rattle.std.specs.Prelude.{◌≡◌, ◌++◌, IfOk};
 ghost use Rattle.std.specs.Option.{ForSome};
 ghost use Rattle.tablet_model.specs.Places.{Place};
-ghost use Rattle.cell_key.specs.Ranges.{place_of, IsAtMostRow};
+ghost use Rattle.cell_key.specs.Ranges.{IsAtMostRow};
 ghost use Rattle.cell_key.specs.Views.{cell_of};
 ghost use Rattle.scan_session.specs.Runs.{may_end, place_behind};
-ghost use Rattle.scan_session.specs.Takes.{mode_of, behind, place_after, take_together, together};
+ghost use Rattle.scan_session.specs.Takes.{mode_of, place_after, take_together};
 
-use cell_key::{ByteText, Entries, Entry, EntryRef, Key, NoMemory, Position, compare};
+use cell_key::{Entries, Entry, EntryRef, NoMemory, Position};
 use iter_contract::SortedSource;
+use source_switch::{are_together, position_behind};
 use std::alloc::Global;
 
 /// Takes the next entries out of a source: as many as were asked for, and those that may not be parted from the last of
@@ -46,18 +47,6 @@ fn may_end(run: &Entries, next: EntryRef<'_>, isolated: bool, count: u32) -> boo
     }
 }
 
-/// Whether two entries may not be parted.
-#[tactic(auto, unfolding(crate::specs::Takes::together))]
-fn are_together(a: EntryRef<'_>, b: EntryRef<'_>, isolated: bool) -> bool
-    ensures { result ≡ together (mode_of isolated) (cell_of a.entry) (cell_of b.entry) }
-{
-    if isolated {
-        a.key.row.cmp(b.key.row).is_eq()
-    } else {
-        compare(a.key, b.key).is_eq()
-    }
-}
-
 /// The position behind a run, and none where the run has no entry.
 #[tactic(auto, unfolding(crate::specs::Takes::place_after))]
 pub(crate) fn position_behind_run(
@@ -70,21 +59,7 @@ pub(crate) fn position_behind_run(
     ensures row { IfOk result (λ position. ForSome position IsAtMostRow) }
 {
     match run.as_slice().last() {
-        Some(last) => Ok(Some(position_behind(alloc, last, isolated)?)),
+        Some(last) => Ok(Some(position_behind(alloc, last.entry(), isolated)?)),
         None => Ok(None),
-    }
-}
-
-/// The position behind an entry.
-#[tactic(auto, unfolding(crate::specs::Takes::behind))]
-fn position_behind(alloc: Global, last: &Entry, isolated: bool) -> Result<Position, NoMemory>
-    ensures place { IfOk result (λ position. place_of position ≡ behind (mode_of isolated) last.now) }
-    ensures row { IfOk result IsAtMostRow }
-{
-    let key = last.entry().key;
-    if isolated {
-        Ok(Position::AfterRow(ByteText::of(alloc, key.row)?))
-    } else {
-        Ok(Position::AfterKey(Key::of(alloc, key)?))
     }
 }
