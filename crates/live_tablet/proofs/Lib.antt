@@ -2,3 +2,4 @@ pub mod Rules
 pub mod Bounds
 pub mod Scans
 pub mod Scanners
+pub mod Sending

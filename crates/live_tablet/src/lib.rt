@@ -15,4 +15,4 @@ pub use loader::Loader;
 pub use opening::{Readers, open};
 pub use reader::{LiveReader, Note};
 pub use scan::Scan;
-pub use scanner::Scanner;
+pub use scanner::{Scanner, scan_all};

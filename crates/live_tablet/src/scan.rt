@@ -94,6 +94,7 @@ impl Scan {
     pub fn fetch<V: Views>(&mut self, alloc: Global, views: &mut V)
         requires { Leads (V.looks views.old) (V.newest views.old) self.old.session.view }
         ensures same { IsSameScanOf self.new self.old }
+        ensures own { V.looks views.old ≡ false → self.new.session.view ≡ self.old.session.view }
         ensures leads { Leads (V.looks views.new) (V.newest views.new) self.new.session.view }
         ensures asked { self.new.failed ≡ false → Rose (V.questions views.old) (V.questions views.new) }
         ensures home { (V.home views.new ≡ V.home views.old) × (V.looks views.new ≡ V.looks views.old) }

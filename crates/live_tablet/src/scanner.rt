@@ -3,7 +3,7 @@ ghost use Rattle.std.specs.Prelude.{◌≡◌, ◌≤◌, false, IfOk, OnErr};
 ghost use Rattle.tablet_io.specs.Causes.{Rose};
 ghost use Rattle.tablet_view.specs.Extending.{Extends};
 ghost use Rattle.tablet_view.specs.Snapshot.{Snapshot};
-ghost use Rattle.live_tablet.specs.Scanners.{IsSameScanner, mode_of_number};
+ghost use Rattle.live_tablet.specs.Scanners.{AreSameScanners, IsSameScanner, mode_of_number};
 ghost use Rattle.live_tablet.specs.Scans.{new_scan};
 
 use crate::reader::{LiveReader, Note};
@@ -12,6 +12,8 @@ use cell_key::NoMemory;
 use std::alloc::Global;
 use std::marker::Model;
 use std::mem::replace;
+use std::thread;
+use std::thread::Threads;
 use tablet_io::{Gate, Place};
 
 /// Scans a tablet over what its reader sees. Its number tells its mode: even ones are isolated, odd ones plain.
@@ -118,4 +120,22 @@ impl Scanner {
             self.fetch(alloc, gate);
         }
     }
+}
+
+/// Runs each scanner in a thread of its own.
+pub fn scan_all<R: Threads + Sync, G: Gate + Sync>(
+    rt: &R,
+    alloc: Global,
+    scanners: &mut [Scanner],
+    gate: &G,
+)
+    ensures { AreSameScanners scanners.new scanners.old }
+{
+    let threads = scanners.len().max(1);
+    thread::for_each_mut(
+        rt,
+        scanners,
+        threads,
+        &|_, scanner: &mut Scanner| { scanner.run(alloc, gate) },
+    );
 }
