@@ -51,6 +51,12 @@ fn the_last_of_many_are_taken(rt: HostRuntime) -> Result<(), NoMemory> {
 #[test]
 fn counts_add_up_beyond_64_bits(rt: HostRuntime) -> Result<(), NoMemory> {
     let greatest = 18_446_744_073_709_551_615;
-    assert!(rt; takes(rt.alloc(), &[greatest, greatest, greatest], Some(&[1, 2, 3]))?);
+    assert!(rt;
+        takes(
+            rt.alloc(),
+            &[greatest, greatest, greatest],
+            Some(&[1, 2, 3])
+        )?
+    );
     Ok(())
 }

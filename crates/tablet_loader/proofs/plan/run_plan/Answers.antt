@@ -1,4 +1,4 @@
-use Rattle.std.proofs.Common.{rules, ◌≡◌, ◌++◌, [], map, sym, ap, ◌∙◌, arith}
+use Rattle.std.proofs.Common.{◌≡◌, ◌++◌, map, sym, ap, ◌∙◌, arith}
 use Rattle.std.proofs.lemmas.List.{map-append}
 use Rattle.std.specs.Arc.{arc_value}
 use Rattle.std.specs.Slice.Iter.{chunks_rest, chunks_size}
@@ -6,7 +6,7 @@ use Rattle.cell_key.specs.Mutations.{row_change_of}
 use Rattle.iter_config.specs.RulesOf.{rules_of}
 use Rattle.tablet_core.specs.State.{CoreState}
 use Rattle.tablet_steps.specs.ModelSteps.{model_answer_of}
-use Rattle.tablet_loader.specs.Loads.{after_chunk, after_chunks, after_jobs, chunks_of, empty_load, log_with_all}
+use Rattle.tablet_loader.specs.Loads.{after_chunk, after_chunks, after_jobs, chunks_of, log_with_all}
 use Rattle.tablet_loader.specs.States.{load_of}
 use Rattle.tablet_loader.proofs.Loads.{all_answered, all_loaded, all_logged, answers_more, answers_with, chunk_off, load_more, log_more, none_loaded}
 use Rattle.tablet_loader.proofs.plan.run_plan.Goals as goal

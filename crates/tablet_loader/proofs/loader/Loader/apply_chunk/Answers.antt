@@ -3,7 +3,7 @@ use Rattle.std.proofs.lemmas.List.{map-append}
 use Rattle.cell_key.specs.Mutations.{row_change_of}
 use Rattle.iter_config.specs.RulesOf.{rules_of}
 use Rattle.tablet_core.specs.State.{state_of}
-use Rattle.tablet_model.specs.Steps.{answer_to_step, apply, log_after, store_after}
+use Rattle.tablet_model.specs.Steps.{apply, store_after}
 use Rattle.tablet_steps.specs.ModelSteps.{model_answer_of}
 use Rattle.tablet_view.specs.Snapshot.{store_of}
 use Rattle.tablet_view.proofs.Orders.{extends_trans}

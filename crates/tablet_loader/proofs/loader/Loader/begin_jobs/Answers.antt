@@ -1,5 +1,4 @@
-use Rattle.std.proofs.Common.{rules, ◌≡◌, map, Some, sym, ap, subst, ◌∙◌, OnOk}
-use Rattle.tablet_core.specs.Status.{count_of}
+use Rattle.std.proofs.Common.{◌≡◌, Some, sym, subst, ◌∙◌, OnOk}
 use Rattle.tablet_model.specs.Steps.{log_after}
 use Rattle.tablet_loader.specs.States.{load_of}
 use Rattle.tablet_loader.proofs.Loads.{jobs_begun}
