@@ -9,8 +9,6 @@ mod fixtures;
 #[cfg(test)]
 mod jobs;
 #[cfg(test)]
-mod plans;
-#[cfg(test)]
 mod running;
 #[cfg(test)]
 mod stacks;
