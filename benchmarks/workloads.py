@@ -27,9 +27,9 @@ scopes = ["scan"]
 FLUSH = ["freeze", "flushed"]
 
 
-def flushed_ten_times(lines):
-    """Puts ten flushes among the lines, at equal distances."""
-    every = max(1, len(lines) // 10)
+def flushed(lines, times):
+    """Puts so many flushes among the lines, at equal distances."""
+    every = max(1, len(lines) // times)
     for i, line in enumerate(lines, 1):
         yield line
         if i % every == 0:
@@ -43,13 +43,13 @@ def mutations(size, rows, update):
 def counters(size):
     """Mutations of one counter each, ten flushes, a full compaction and a scan."""
     lines = mutations(size, size // 20 + 1, lambda: f"n:q{random.randrange(4)}:={random.randrange(100)}")
-    return [SUM, *flushed_ten_times(lines), "compactall j1", "finish j1", "scan"]
+    return [SUM, *flushed(lines, 10), "compactall j1", "finish j1", "scan"]
 
 
 def newest(size):
     """The same with values of which the newest stays."""
     lines = mutations(size, size // 20 + 1, lambda: f"a:q{random.randrange(4)}:={random.randrange(1000)}")
-    return [NEWEST, *flushed_ten_times(lines), "compactall j1", "finish j1", "scan"]
+    return [NEWEST, *flushed(lines, 10), "compactall j1", "finish j1", "scan"]
 
 
 def scans(size):
@@ -62,7 +62,7 @@ def points(size):
     rows = size // 4 + 1
     lines = mutations(size // 2, rows, lambda: f"a:q{random.randrange(4)}:={random.randrange(1000)}")
     rows_asked = [f"r{random.randrange(rows)}" for _ in range(size // 2)]
-    return [NEWEST, *flushed_ten_times(lines), *[f"scan [{row},{row}]" for row in rows_asked]]
+    return [NEWEST, *flushed(lines, 10), *[f"scan [{row},{row}]" for row in rows_asked]]
 
 
 def batches(size):
@@ -86,7 +86,13 @@ def index(size):
     for i in range(size):
         terms = ["each"] + ["many"] * (i % 2 == 0) + ["rare"] * (i % 1000 == 0)
         lines.append("m p " + " ".join(f"+{term}:d{i:07}:=" for term in terms))
-    return [SEARCH, *flushed_ten_times(lines), *["scan"] * 10]
+    return [SEARCH, *flushed(lines, 10), *["scan"] * 10]
+
+
+def files(size):
+    """Mutations of random rows, flushed into 60 files, and ten scans of them all."""
+    lines = [f"m r{random.randrange(10**7):07} +a:q:={random.randrange(1000)}" for _ in range(size)]
+    return [NEWEST, *flushed(lines, 60), *["scan"] * 10]
 
 
 # Each with its least size, and what its peers do with the values of a column; they have no searches.
@@ -98,6 +104,7 @@ ALL = {
     "batches": (batches, 50_000, "sums"),
     "large": (large, 10_000, "newest"),
     "index": (index, 50_000, None),
+    "files": (files, 60_000, "newest"),
 }
 
 

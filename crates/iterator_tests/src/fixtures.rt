@@ -88,7 +88,7 @@ fn write_key(left: &mut ByteText, key: KeyRef<'_>) -> Result<(), NoMemory> {
 }
 
 /// Writes an entry: its key, `=` or at a marker `!`, and its value.
-fn write(left: &mut ByteText, entry: EntryRef<'_>) -> Result<(), NoMemory> {
+pub(crate) fn write(left: &mut ByteText, entry: EntryRef<'_>) -> Result<(), NoMemory> {
     write_key(left, entry.key)?;
     left.push(if entry.key.deleted { b'!' } else { b'=' })?;
     left.append(entry.value)?;

@@ -1,4 +1,4 @@
-//! Tests of the iterators over any source: delete markers, versions, filters and combiners.
+//! Tests of the iterators over any source: delete markers, versions, filters and combiners, and switches to newer stacks.
 #![tactic(auto)]
 
 #[cfg(test)]
@@ -11,3 +11,5 @@ mod filtering;
 mod fixtures;
 #[cfg(test)]
 mod newest;
+#[cfg(test)]
+mod switching;

@@ -3,3 +3,4 @@ pub mod Bounds
 pub mod Scans
 pub mod Scanners
 pub mod Sending
+pub mod Runs

@@ -1,5 +1,5 @@
 -- What contracts see of a scanner. All of this is this project's own.
-use Rattle.std.specs.Prelude.{◌≡◌, ℕ, ◌%◌, ◌<◌, Bool, List, length, slice_index_or, eqb}
+use Rattle.std.specs.Prelude.{◌≡◌, ℕ, ◌%◌, eqb}
 use Rattle.scan_session.specs.Takes.{Mode, mode_of}
 use Rattle.live_tablet.specs.Scans.{ScanState, IsSameScanOf}
 use Rattle.live_tablet.specs.States.{ReaderState}
@@ -19,7 +19,3 @@ pub record IsSameScanner (new old : ScannerState) : Type 0 where
   pub number : new.number ≡ old.number
   pub tablet : new.reader.tablet ≡ old.reader.tablet
   pub scan : IsSameScanOf new.scan old.scan
-
--- each of some scanners is the same as before
-abbrev pub AreSameScanners : List ScannerState → List ScannerState → Type 0
-AreSameScanners new old = (k : ℕ) (d : ScannerState) → k < length old → IsSameScanner (slice_index_or new k d) (slice_index_or old k d)

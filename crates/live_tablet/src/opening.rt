@@ -75,13 +75,13 @@ pub fn open<R: Wait>(
     readers: u32,
 ) -> Result<(Loader, Readers), NoMemory>
     requires { (0 < readers) × (readers ≤ 8) }
-    ensures core { IfOk result (λ tablet. tablet.0.core ≡ empty_core (arc_value config)) }
+    ensures core { IfOk result (λ tablet. (tablet.0.core ≡ empty_core (arc_value config)) × (tablet.0.job ≡ 0)) }
     ensures published { IfOk result (λ tablet. tablet.0.published ≡ empty_snapshot (arc_value config)) }
     ensures readers { IfOk result (λ tablet. All (IsNew tablet.0.tablet tablet.0.published) tablet.1 × (length tablet.1 ≡ readers)) }
 {
-    let core = Core::open(alloc, config)?;
-    let writer = writer_of(alloc, &core, readers)?;
-    let mut loader = Loader::started(rt, core, writer)?;
+    let load = tablet_loader::Loader::open(alloc, config)?;
+    let writer = writer_of(alloc, &load.core, readers)?;
+    let mut loader = Loader::started(rt, load, writer)?;
     match seat_all(&mut loader, alloc, readers) {
         Ok(readers) => Ok((loader, readers)),
         Err(error) => {

@@ -7,6 +7,7 @@ ghost use Rattle.scan_session.specs.ScanCalls.{all_pieces};
 ghost use Rattle.scan_session.specs.Takes.{mode_of};
 ghost use Rattle.live_tablet.specs.Scans.{HasScanned, IsSameScanOf, IsScanOver, new_scan};
 
+use crate::walk::Walk;
 use cell_key::{Bound, Families, Items, NoMemory, Range};
 use scan_session::{Fetched, Session, Views};
 use std::alloc::Global;
@@ -131,6 +132,24 @@ impl Scan {
             × IsScanOver whole.now.config whole.now.log self.now.session.mode self.now.batch least self.now.pieces n }
     {
         self.ended().is_some() && least <= self.least && whole.begins_with(self.session.view())
+    }
+
+    /// Whether it is in this mode and in batches of so many entries. It takes no memory.
+    pub(crate) fn is_made_so(&self, isolated: bool, batch: u32) -> bool
+        ensures { result ≡ true → (self.now.session.mode ≡ mode_of isolated) × (self.now.batch ≡ batch) }
+    {
+        self.isolated == isolated && self.batch == batch
+    }
+
+    /// What it gave and where it ended, if it did. It takes no memory.
+    pub(crate) fn into_walk(self) -> Option<Walk>
+        ensures { IfSome result (λ walk. (all_pieces walk.fetches ≡ self.pieces) × (self.ended ≡ Some walk.end)) }
+    {
+        let end = self.ended?;
+        Some(Walk {
+            fetches: self.fetches,
+            end,
+        })
     }
 
     /// What each fetch gave. It takes no memory.

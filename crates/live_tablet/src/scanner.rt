@@ -3,17 +3,16 @@ ghost use Rattle.std.specs.Prelude.{◌≡◌, ◌≤◌, false, IfOk, OnErr};
 ghost use Rattle.tablet_io.specs.Causes.{Rose};
 ghost use Rattle.tablet_view.specs.Extending.{Extends};
 ghost use Rattle.tablet_view.specs.Snapshot.{Snapshot};
-ghost use Rattle.live_tablet.specs.Scanners.{AreSameScanners, IsSameScanner, mode_of_number};
+ghost use Rattle.live_tablet.specs.Scanners.{IsSameScanner, mode_of_number};
 ghost use Rattle.live_tablet.specs.Scans.{new_scan};
 
 use crate::reader::{LiveReader, Note};
+use crate::reading::Reading;
 use crate::scan::Scan;
 use cell_key::NoMemory;
 use std::alloc::Global;
 use std::marker::Model;
 use std::mem::replace;
-use std::thread;
-use std::thread::Threads;
 use tablet_io::{Gate, Place};
 
 /// Scans a tablet over what its reader sees. Its number tells its mode: even ones are isolated, odd ones plain.
@@ -65,6 +64,13 @@ impl Scanner {
         ensures { result.now ≡ self.now.scan }
     {
         &self.scan
+    }
+
+    /// The scan that it makes. It takes no memory.
+    pub(crate) fn into_scan(self) -> Scan
+        ensures { result ≡ self.scan }
+    {
+        self.scan
     }
 
     /// Takes in a note, where the reader allows it. It waits for nobody, and takes no memory.
@@ -122,20 +128,12 @@ impl Scanner {
     }
 }
 
-/// Runs each scanner in a thread of its own.
-pub fn scan_all<R: Threads + Sync, G: Gate + Sync>(
-    rt: &R,
-    alloc: Global,
-    scanners: &mut [Scanner],
-    gate: &G,
-)
-    ensures { AreSameScanners scanners.new scanners.old }
-{
-    let threads = scanners.len().max(1);
-    thread::for_each_mut(
-        rt,
-        scanners,
-        threads,
-        &|_, scanner: &mut Scanner| { scanner.run(alloc, gate) },
-    );
+impl<G: Gate> Reading<G> for Scanner {
+    ghost use Rattle.live_tablet.specs.Scanners.{IsSameScanner};
+
+    ghost same = { IsSameScanner };
+
+    fn read(&mut self, alloc: Global, gate: &G) {
+        self.run(alloc, gate);
+    }
 }

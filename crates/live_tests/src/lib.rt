@@ -7,3 +7,5 @@ mod fixtures;
 mod loads;
 #[cfg(test)]
 mod publishing;
+#[cfg(test)]
+mod running;

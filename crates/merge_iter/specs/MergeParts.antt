@@ -9,7 +9,8 @@ use Rattle.tablet_model.specs.Bounds.{IsEntry, AreEntries}
 use Rattle.tablet_model.proofs.Merges.{all_append, all_sorted}
 use Rattle.tablet_model.proofs.Orders.{above_exact}
 use Rattle.tablet_model.proofs.Sums.{Ascends-sorted}
-use Rattle.iter_contract.specs.Several.{all_steady, AreOrdered}
+use Rattle.iter_contract.specs.Several.{all_steady}
+use Rattle.merge_iter.specs.Heaps.{IsHeap}
 use Rattle.merge_iter.specs.declared.merge.MergeIter.{MergeIter}
 
 module _ {S : Type 0} where
@@ -25,10 +26,10 @@ module _ {S : Type 0} where
   abbrev pub merge_steady : (S → Bool) → MergeIter S → Bool
   merge_steady steady it = all_steady steady it.sources.items
 
-  -- the parts of each source fit together, and once they were sought, the sources stand in the order of their tops
+  -- the parts of each source fit together, and once they were sought, the sources stand in a heap by their tops
   abbrev pub merge_valid : (S → List Cell) → (S → Type 0) → MergeIter S → Type 0
   merge_valid rest valid it =
-      AllByRecursion valid it.sources.items × (it.is_sought ≡ true → AreOrdered (map rest it.sources.items))
+      AllByRecursion valid it.sources.items × (it.is_sought ≡ true → IsHeap rest it.sources.items)
 
   -- a sum is in order
   pub merge_sorted : (cells : S → List Cell) → (it : MergeIter S) → Ascends above (merge_cells cells it)

@@ -1,12 +1,13 @@
 //! Several sources as one.
+use crate::several::{first_top, seek_all, step_first};
 use cell_key::{EntryRef, NoMemory, Range};
-use iter_contract::{SortedSource, copies, first_top, seek_all, step_first};
+use iter_contract::{SortedSource, copies};
 use std::alloc::Global;
 
 /// The entries of any number of sources in one order, each as often as it stands in them (Accumulo's `MultiIterator`).
 #[derive(Drop)]
 pub struct MergeIter<S> {
-    /// In the order of their tops, once they were sought.
+    /// In a heap by their tops, once they were sought.
     sources: Vec<S>,
     /// Whether the last seek or step came to its end.
     is_sought: bool,

@@ -1,5 +1,5 @@
 //! Shows that stacks of iterators make of entries what their configuration says in each usage, that jobs compact memory and
-//! files, and that running jobs are told by their numbers and files, where there is memory.
+//! files, that running jobs are told by their numbers and files, and which files a next one takes, where there is memory.
 #![tactic(auto)]
 
 #[cfg(test)]
@@ -8,6 +8,8 @@ mod documents;
 mod fixtures;
 #[cfg(test)]
 mod jobs;
+#[cfg(test)]
+mod plans;
 #[cfg(test)]
 mod running;
 #[cfg(test)]

@@ -7,8 +7,13 @@ use Rattle.tablet_cli.specs.declared.status.Status.TheVariants.{Done, Usage, Bad
 use Rattle.tablet_replay.specs.Packing.{pack_text}
 use Rattle.tablet_replay.specs.Replay.{is_refused, replay_text}
 use Rattle.tablet_replay.specs.Showing.{is_no_image, show_text, upgrade_bytes}
+use Rattle.tablet_gen.specs.Summary.{summary_text}
+use Rattle.live_tablet.specs.declared.running.LiveShape.{LiveShape}
+use Rattle.live_script.specs.Texts.{IsLiveReply}
 use Rattle.tablet_cli.specs.declared.command_word.Command.{Command}
-use Rattle.tablet_cli.specs.declared.command_word.Command.TheVariants.{Replay, Pack, Show, Upgrade}
+use Rattle.tablet_cli.specs.declared.command_word.Command.TheVariants as command
+use Rattle.tablet_cli.specs.declared.command_word.Reply.{Reply}
+use Rattle.tablet_cli.specs.declared.command_word.Reply.TheVariants.{Replay, Pack, Show, Upgrade}
 use Rattle.tablet_cli.specs.Words.{usage_line}
 
 -- what a source or a sink tells of its bytes, and its count of faults, before a call and after it
@@ -65,38 +70,61 @@ Answers text end i o Usage = ⊥
 Answers text end i o status = IfSome i.before (λ bytes. WasRead i bytes × (end bytes ≡ status) × IsWritten o (text bytes))
 
 -- what a command writes for an input
-abbrev pub command_text : Command → List ℕ → List ℕ
-command_text Replay bytes = replay_text bytes
-command_text Pack bytes = pack_text bytes
-command_text Show bytes = show_text bytes
-command_text Upgrade bytes = upgrade_bytes bytes
+abbrev pub reply_text : Reply → List ℕ → List ℕ
+reply_text Replay bytes = replay_text bytes
+reply_text Pack bytes = pack_text bytes
+reply_text Show bytes = show_text bytes
+reply_text Upgrade bytes = upgrade_bytes bytes
 
 -- whether a command refuses an input: its configuration, or that it is no image
-abbrev pub refuses : Command → List ℕ → Bool
+abbrev pub refuses : Reply → List ℕ → Bool
 refuses Replay bytes = is_refused bytes
 refuses Pack bytes = is_refused bytes
 refuses Show bytes = is_no_image bytes
 refuses Upgrade bytes = is_no_image bytes
 
 -- how a command ends that refuses its input, or doesn't
-abbrev pub end_of : Command → Bool → Status
-end_of command false = Done
+abbrev pub end_of : Reply → Bool → Status
+end_of reply false = Done
 end_of Replay true = BadConfig
 end_of Pack true = BadConfig
 end_of Show true = BadImage
 end_of Upgrade true = BadImage
 
 -- how it ends, where nothing comes between
-abbrev pub command_end : Command → List ℕ → Status
-command_end command bytes = end_of command (refuses command bytes)
+abbrev pub reply_end : Reply → List ℕ → Status
+reply_end reply bytes = end_of reply (refuses reply bytes)
 
 -- what a command does
-abbrev pub Performs : Command → Port → Port → Status → Type 0
-Performs command i o status = Answers (command_text command) (command_end command) i o status
+abbrev pub Performs : Reply → Port → Port → Status → Type 0
+Performs reply i o status = Answers (reply_text reply) (reply_end reply) i o status
+
+-- what `gen` does: the summary of these numbers was written, or its first bytes before a fault, or nothing for want of memory
+abbrev pub Generates : ℕ → ℕ → Port → Status → Type 0
+Generates start size o Done = IsWritten o (summary_text start size)
+Generates start size o WriteFault = HasFault o × IsFrontWritten o (summary_text start size)
+Generates start size o NoMemory = IsUntouched o
+Generates start size o _ = ⊥
+
+-- what a command does that may write one of several texts for an input, by its status: the end is that of the input, unless a fault or want
+-- of memory comes between: then nothing was written, or after a failed write the first bytes of such a text
+abbrev pub AnswersOne : (List ℕ → List ℕ → Type 0) → (List ℕ → Status) → Port → Port → Status → Type 0
+AnswersOne allowed end i o WriteFault = HasFault o × IfSome i.before (λ bytes. WasRead i bytes × ((text : List ℕ) × allowed bytes text × IsFrontWritten o text))
+AnswersOne allowed end i o ReadFault = HasFault i × IfSome i.before (WasNotTooLong i) × IsUntouched o
+AnswersOne allowed end i o TooLong = IfSome i.before (WasTooLong i) × IsUntouched o
+AnswersOne allowed end i o NoMemory = IfSome i.before (WasNotTooLong i) × IsUntouched o
+AnswersOne allowed end i o Usage = ⊥
+AnswersOne allowed end i o status = IfSome i.before (λ bytes. WasRead i bytes × (end bytes ≡ status) × ((text : List ℕ) × allowed bytes text × IsWritten o text))
+
+-- what `live` does: it ends as `replay` does for the same input
+abbrev pub Lives : LiveShape → Port → Port → Status → Type 0
+Lives shape i o status = AnswersOne (IsLiveReply shape) (reply_end Replay) i o status
 
 -- what `run` does, by the command that the words name
 abbrev pub Runs : Option Command → Port → Port → Status → Type 0
-Runs (Some command) i o status = Performs command i o status
+Runs (Some (command.Reply reply)) i o status = Performs reply i o status
+Runs (Some (command.Generate start size)) i o status = IsUntouched i × Generates start size o status
+Runs (Some (command.Live shape)) i o status = Lives shape i o status
 Runs None i o Usage = IsUntouched i × IsWritten o usage_line
 Runs None i o WriteFault = IsUntouched i × HasFault o × IsFrontWritten o usage_line
 Runs None i o _ = ⊥
@@ -108,10 +136,16 @@ IsDoneOrNoMemory NoMemory = ⊤
 IsDoneOrNoMemory _ = ⊥
 
 -- with an input that is not too long, an accepted configuration or an image, and no fault there is no other end
-abbrev pub IsComplete : Command → Port → Port → Status → Type 0
-IsComplete command i o status = IfSome i.before (λ bytes. length bytes ≤ max_input → command_end command bytes ≡ Done → ¬ HasFault i → ¬ HasFault o → IsDoneOrNoMemory status)
+abbrev pub IsComplete : Reply → Port → Port → Status → Type 0
+IsComplete reply i o status = IfSome i.before (λ bytes. length bytes ≤ max_input → reply_end reply bytes ≡ Done → ¬ HasFault i → ¬ HasFault o → IsDoneOrNoMemory status)
+
+-- without a fault there is no other end
+abbrev pub IsDone : Port → Status → Type 0
+IsDone o status = ¬ HasFault o → IsDoneOrNoMemory status
 
 -- the same of the command that the words name, if they name one
 abbrev pub IsRunComplete : Option Command → Port → Port → Status → Type 0
 IsRunComplete None i o status = ⊤
-IsRunComplete (Some command) i o status = IsComplete command i o status
+IsRunComplete (Some (command.Reply reply)) i o status = IsComplete reply i o status
+IsRunComplete (Some (command.Generate start size)) i o status = IsDone o status
+IsRunComplete (Some (command.Live shape)) i o status = IsComplete Replay i o status

@@ -3,6 +3,7 @@
 
 mod command;
 mod command_word;
+mod number;
 mod reply;
 mod status;
 #[cfg(test)]

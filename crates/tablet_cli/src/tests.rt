@@ -1,7 +1,7 @@
 //! Ends and statuses, over sources and sinks that fail.
 ghost use Rattle.std.specs.Prelude.{◌≤◌};
 
-use crate::command::{MAX_INPUT, replay, run};
+use crate::command::{MAX_INPUT, generate, replay, run};
 use crate::status::Status;
 use cell_key::{ByteText, NoMemory};
 use std::alloc::Global;
@@ -133,6 +133,30 @@ fn each_write_may_fail(rt: HostRuntime) -> Result<(), NoMemory> {
             );
         }
     }
+    Ok(())
+}
+
+const SUMMARY: &[u8] = b"log 4\nentries 3\ntotal 43\nmemory 0\nfrozen none\nfile f1 4\n";
+
+/// Whether the summary of four generated mutations ends so, and this is what was written.
+fn summary_ends(alloc: Global, port: Port, status: Status, text: &[u8]) -> Result<bool, NoMemory>
+    requires { 1 ≤ port.0 }
+{
+    let mut output = sink(alloc, port)?;
+    Ok(generate(alloc, 1, 4, &mut output) == status && output.bytes() == text)
+}
+
+#[test]
+fn each_write_of_a_summary_may_fail(rt: HostRuntime) -> Result<(), NoMemory> {
+    for calls in 0..SUMMARY.len().div_ceil(7) {
+        let written = front(SUMMARY, calls);
+        let failing = calls as u64 + 1;
+        assert!(rt;
+            summary_ends(rt.alloc(), (7, failing), Status::WriteFault, written)?,
+            "{failing}"
+        );
+    }
+    assert!(rt; summary_ends(rt.alloc(), (7, 0), Status::Done, SUMMARY)?);
     Ok(())
 }
 

@@ -150,7 +150,7 @@ split_at (suc n) (y ∷ ys) zs a b =
     (ap (λ l. y ∷ l) parts.0, parts.1)
 
 -- a chunk of so many, or of all that is left
-pub chunk_first : (n : ℕ) (list chunk later : List RowChange) → 0 < n → list ≡ chunk ++ later → 0 < length list → length chunk ≤ n → (length chunk < n → length later ≡ 0)
+chunk_first : (n : ℕ) (list chunk later : List RowChange) → 0 < n → list ≡ chunk ++ later → 0 < length list → length chunk ≤ n → (length chunk < n → length later ≡ 0)
     → chunks_of n list ≡ chunk ∷ chunks_of n later
 chunk_first n list chunk later some d l few last =
     let parts = split_at n chunk later few last in
@@ -158,13 +158,27 @@ chunk_first n list chunk later some d l few last =
     ∙ (λ i. take n (d i) ∷ chunks_of n (drop n (d i)))
     ∙ (λ i. parts.0 i ∷ chunks_of n (parts.1 i))
 
-pub load_more : (c : Rules) (a b all : Load) (chunk : List RowChange) (list rest : List (List RowChange)) → b ≡ after_chunk c a chunk → list ≡ chunk ∷ rest → after_chunks c a list ≡ all → after_chunks c b rest ≡ all
+-- a list that is no longer than a chunk is one, unless it is empty
+pub one_chunk : (n : ℕ) (list : List RowChange) → 0 < length list → length list ≤ n → chunks_of n list ≡ list ∷ []
+unfolding chunks_of
+one_chunk n list some few = chunk_first n list list [] (omega (arith, some, few)) (sym (append-nil list)) some few (λ l. refl)
+
+-- the first chunk may come in apart from the others
+pub first_apart : (c : Rules) (l : Load) (n : ℕ) (first rest : List RowChange) → 0 < n → length first ≤ n → (length first < n → length rest ≡ 0)
+    → after_chunks c (after_chunks c l (chunks_of n first)) (chunks_of n rest) ≡ after_chunks c l (chunks_of n (first ++ rest))
+unfolding chunks_of
+first_apart c l n [] rest some few last = refl
+first_apart c l n (m ∷ first) rest some few last =
+    ap (λ chunks. after_chunks c (after_chunks c l chunks) (chunks_of n rest)) (one_chunk n (m ∷ first) (omega arith) few)
+    ∙ sym (ap (after_chunks c l) (chunk_first n ((m ∷ first) ++ rest) (m ∷ first) rest some refl (omega arith) few last))
+
+load_more : (c : Rules) (a b all : Load) (chunk : List RowChange) (list rest : List (List RowChange)) → b ≡ after_chunk c a chunk → list ≡ chunk ∷ rest → after_chunks c a list ≡ all → after_chunks c b rest ≡ all
 load_more c a b all chunk list rest s d h = ap (λ l. after_chunks c l rest) s ∙ ap (after_chunks c a) (sym d) ∙ h
 
-pub log_more : (c : Rules) (h g all chunk list later : List RowChange) → g ≡ log_with_all c h chunk → list ≡ chunk ++ later → log_with_all c h list ≡ all → log_with_all c g later ≡ all
+log_more : (c : Rules) (h g all chunk list later : List RowChange) → g ≡ log_with_all c h chunk → list ≡ chunk ++ later → log_with_all c h list ≡ all → log_with_all c g later ≡ all
 log_more c h g all chunk list later s d e = ap (λ l. log_with_all c l later) s ∙ sym (log_behind c h chunk later) ∙ ap (log_with_all c h) (sym d) ∙ e
 
-pub answers_more : (c : Rules) (given more all : List (Option StepAnswer)) (h g chunk list later : List RowChange)
+answers_more : (c : Rules) (given more all : List (Option StepAnswer)) (h g chunk list later : List RowChange)
     → g ≡ log_with_all c h chunk → more ≡ answers_with c given h chunk → list ≡ chunk ++ later → answers_with c given h list ≡ all → answers_with c more g later ≡ all
 answers_more c given more all h g chunk list later s m d e =
     (λ i. answers_with c (m i) (s i) later)
@@ -180,7 +194,7 @@ unfolding state_of store_of empty_store
 none_loaded l config core job = λ i. record { store = state_of (core i); job = job i }
 
 -- a chunk that comes off what is left
-pub chunk_off : (n size : ℕ) (rest x later : List Mutation) → 0 < n → size ≡ n → rest ≡ x ++ later → length x ≡ min size (length rest) → 0 < length rest
+chunk_off : (n size : ℕ) (rest x later : List Mutation) → 0 < n → size ≡ n → rest ≡ x ++ later → length x ≡ min size (length rest) → 0 < length rest
     → chunks_of n (map row_change_of rest) ≡ map row_change_of x ∷ chunks_of n (map row_change_of later)
 chunk_off n size rest x later some s d few l =
     let whole : length rest ≡ length x + length later = ap length d ∙ length-append x later in
@@ -193,15 +207,44 @@ chunk_off n size rest x later some s d few l =
     (λ k. length-map later row_change_of ∙ last (omega (arith, k, length-map x row_change_of)))
 
 -- nothing is left at the end
-pub all_loaded : (c : Rules) (n : ℕ) (l : Load) (rest : List Mutation) → length rest ≡ 0 → after_chunks c l (chunks_of n (map row_change_of rest)) ≡ l
+all_loaded : (c : Rules) (n : ℕ) (l : Load) (rest : List Mutation) → length rest ≡ 0 → after_chunks c l (chunks_of n (map row_change_of rest)) ≡ l
 unfolding chunks_of
 all_loaded c n l [] h = refl
 all_loaded c n l (m ∷ rest) h = absurd (omega (arith, h))
 
-pub all_logged : (c : Rules) (h : List RowChange) (rest : List Mutation) → length rest ≡ 0 → log_with_all c h (map row_change_of rest) ≡ h
+all_logged : (c : Rules) (h : List RowChange) (rest : List Mutation) → length rest ≡ 0 → log_with_all c h (map row_change_of rest) ≡ h
 all_logged c h [] e = refl
 all_logged c h (m ∷ rest) e = absurd (omega (arith, e))
 
-pub all_answered : (c : Rules) (given : List (Option StepAnswer)) (h : List RowChange) (rest : List Mutation) → length rest ≡ 0 → answers_with c given h (map row_change_of rest) ≡ given
+all_answered : (c : Rules) (given : List (Option StepAnswer)) (h : List RowChange) (rest : List Mutation) → length rest ≡ 0 → answers_with c given h (map row_change_of rest) ≡ given
 all_answered c given h [] e = append-nil given
 all_answered c given h (m ∷ rest) e = absurd (omega (arith, e))
+
+-- behind the mutations that are left a load is another one, with such a log and such answers
+pub record WillBe (c : Rules) (n : ℕ) (l : Load) (h : List RowChange) (given : List (Option StepAnswer)) (rest : List Mutation) (load : Load) (log : List RowChange) (answers : List (Option StepAnswer)) : Type 0 where
+  pub load_is : after_chunks c l (chunks_of n (map row_change_of rest)) ≡ load
+  pub log_is_so : log_with_all c h (map row_change_of rest) ≡ log
+  pub answers_are : answers_with c given h (map row_change_of rest) ≡ answers
+
+-- a chunk more came in
+pub will_be_still : (c : Rules) (n size : ℕ) (l l' : Load) (h h' : List RowChange) (given given' : List (Option StepAnswer)) (rest x later : List Mutation) (load : Load) (log : List RowChange) (answers : List (Option StepAnswer))
+    → 0 < n → size ≡ n → rest ≡ x ++ later → length x ≡ min size (length rest) → 0 < length rest
+    → l' ≡ after_chunk c l (map row_change_of x) → h' ≡ log_with_all c h (map row_change_of x) → given' ≡ answers_with c given h (map row_change_of x)
+    → WillBe c n l h given rest load log answers → WillBe c n l' h' given' later load log answers
+will_be_still c n size l l' h h' given given' rest x later load log answers some e d few more loads logs tells w =
+    let first = chunk_off n size rest x later some e d few more in
+    let left : map row_change_of rest ≡ map row_change_of x ++ map row_change_of later = ap (λ l. map row_change_of l) d ∙ map-append row_change_of x later in
+    record {
+      load_is = load_more c l l' load (map row_change_of x) (chunks_of n (map row_change_of rest)) (chunks_of n (map row_change_of later)) loads first w.load_is;
+      log_is_so = log_more c h h' log (map row_change_of x) (map row_change_of rest) (map row_change_of later) logs left w.log_is_so;
+      answers_are = answers_more c given given' answers h h' (map row_change_of x) (map row_change_of rest) (map row_change_of later) logs tells left w.answers_are;
+    }
+
+-- all came in
+pub is_now : (c : Rules) (n : ℕ) (l : Load) (h : List RowChange) (given : List (Option StepAnswer)) (rest : List Mutation) (load : Load) (log : List RowChange) (answers : List (Option StepAnswer))
+    → length rest ≡ 0 → WillBe c n l h given rest load log answers → (l ≡ load) × (h ≡ log) × (given ≡ answers)
+is_now c n l h given rest load log answers e w = (
+  sym (all_loaded c n l rest e) ∙ w.load_is,
+  sym (all_logged c h rest e) ∙ w.log_is_so,
+  sym (all_answered c given h rest e) ∙ w.answers_are,
+)

@@ -17,4 +17,5 @@ mod tablet;
 
 pub use headline::{scans_are_whole, sessions_walk, steps_change_no_answer};
 pub use outcome::{Outcome, ReplyError};
-pub use reply::{pack_to, replay_to, show_to, upgrade_to};
+pub use reply::{pack_to, replay_to, show_to, upgrade_to, write_refusal};
+pub use status::append_files;

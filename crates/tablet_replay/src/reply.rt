@@ -1,9 +1,12 @@
 //! What the commands write for an input.
-ghost use Rattle.std.specs.Prelude.{◌≡◌, IfOk};
+ghost use Rattle.std.specs.Prelude.{◌≡◌, true, Err, IfOk};
+ghost use Rattle.iter_config.specs.Faults.{fault};
 ghost use Rattle.tablet_replay.specs.Packing.{pack_text};
+ghost use Rattle.tablet_replay.specs.Refusals.{config_line};
 ghost use Rattle.tablet_replay.specs.Replay.{is_refused, replay_text};
 ghost use Rattle.tablet_replay.specs.Replies.{HasCause, Replies, is_refusal};
 ghost use Rattle.tablet_replay.specs.Showing.{is_no_image, show_text, upgrade_bytes};
+ghost use Rattle.tablet_replay.specs.declared.outcome.ReplyError.TheVariants.{NoMemory};
 
 use crate::outcome::{Outcome, ReplyError};
 use crate::packing::file_of_script;
@@ -11,7 +14,7 @@ use crate::refusal::{config_line, image_line};
 use crate::script::answer_script;
 use crate::showing::show_file;
 use cell_key::ByteText;
-use iter_config::{ConfigError, read_config};
+use iter_config::{ConfigError, Rule, read_config};
 use script_text::split_input;
 use sorted_file::{OpenError, SortedFile};
 use std::alloc::Global;
@@ -26,10 +29,30 @@ fn write_bytes<O: Sink>(
 ) -> Result<Outcome, ReplyError>
     ensures text { Replies bytes.now (O.taken output.old) (O.taken output.new) result }
     ensures outcome { IfOk result (λ told. told ≡ outcome) }
+    ensures error { ¬ (result ≡ Err NoMemory) }
     ensures cause { HasCause (O.faults output.old) (O.faults output.new) result }
 {
     write_all(output, bytes)?;
     Ok(outcome)
+}
+
+/// Writes why a configuration is refused. It takes memory for a line.
+///
+/// After an error a prefix of the line was taken, nothing where memory was wanting, and `Write` comes only where the sink's count of
+/// faults rose in this call.
+pub fn write_refusal<O: Sink>(
+    alloc: Global,
+    rule: Rule,
+    at: u32,
+    output: &mut O,
+) -> Result<Outcome, ReplyError>
+    ensures text { Replies (config_line (fault rule at)) (O.taken output.old) (O.taken output.new) result }
+    ensures untouched { result ≡ Err NoMemory → output.new ≡ output.old }
+    ensures refused { IfOk result (λ outcome. is_refusal outcome ≡ true) }
+    ensures cause { HasCause (O.faults output.old) (O.faults output.new) result }
+{
+    let why = config_line(alloc, rule, at)?;
+    write_bytes(why.bytes(), Outcome::Refused, output)
 }
 
 /// Writes the answers to a script under its configuration, or why the configuration is refused. They go out in pieces while the script
@@ -52,10 +75,7 @@ pub fn replay_to<O: Sink>(
             answer_script(alloc, config, script, output)?;
             Ok(Outcome::Answered)
         }
-        Err(ConfigError::Refused { rule, at }) => {
-            let why = config_line(alloc, rule, at)?;
-            write_bytes(why.bytes(), Outcome::Refused, output)
-        }
+        Err(ConfigError::Refused { rule, at }) => write_refusal(alloc, rule, at, output),
         Err(ConfigError::NoMemory) => Err(ReplyError::NoMemory),
     }
 }
@@ -76,10 +96,7 @@ pub fn pack_to<O: Sink>(alloc: Global, input: &[u8], output: &mut O) -> Result<O
             let file = file_of_script(alloc, config, script)?;
             write_bytes(file.bytes(), Outcome::Answered, output)
         }
-        Err(ConfigError::Refused { rule, at }) => {
-            let why = config_line(alloc, rule, at)?;
-            write_bytes(why.bytes(), Outcome::Refused, output)
-        }
+        Err(ConfigError::Refused { rule, at }) => write_refusal(alloc, rule, at, output),
         Err(ConfigError::NoMemory) => Err(ReplyError::NoMemory),
     }
 }

@@ -8,7 +8,8 @@ use script_text::{append_file, append_frozen, append_job, append_log, append_mem
 use std::alloc::Global;
 use tablet_core::{FileCount, StoreStatus};
 
-fn append_files(alloc: Global, text: &mut ByteText, files: &[FileCount]) -> Result<(), NoMemory>
+/// Appends the lines of files.
+pub fn append_files(alloc: Global, text: &mut ByteText, files: &[FileCount]) -> Result<(), NoMemory>
     ensures { OnOk result (text.new ≡ text.old ++ count_lines files.now) }
 {
     for file in files {

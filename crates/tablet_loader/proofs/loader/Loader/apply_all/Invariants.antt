@@ -5,7 +5,7 @@ use Rattle.tablet_view.specs.Extending.{Extends}
 use Rattle.tablet_loader.specs.Loads.{after_changes, log_with_all}
 use Rattle.tablet_loader.specs.States.{load_of, rules_in}
 use Rattle.tablet_loader.proofs.Loads.{answers_with}
-use Rattle.tablet_loader.proofs.loader.Loader.apply_chunk.Given as goal
+use Rattle.tablet_loader.proofs.loader.Loader.apply_all.Given as goal
 
 abbrev pub invariant-loop-mutation : goal.invariant-loop-mutation
 invariant-loop-mutation l =

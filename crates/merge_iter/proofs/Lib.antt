@@ -1,0 +1,3 @@
+pub mod TopOrder
+pub mod Shuffles
+pub mod HeapTops
