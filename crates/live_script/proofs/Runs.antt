@@ -1,5 +1,5 @@
 -- The text of a run is one that `live` may write.
-use Rattle.std.proofs.Common.{◌≡◌, ℕ, List, [], ◌∷◌, ◌++◌, length, map, take, Option, Some, option_map, refl, sym, ap, subst, ◌∙◌}
+use Rattle.std.proofs.Common.{◌≡◌, ℕ, List, [], ◌∷◌, ◌++◌, length, map, take, Option, Some, option_map, refl, sym, ap, subst, ◌∙◌, append_assoc}
 use Rattle.std.specs.Prelude.{Result, Err}
 use Rattle.cell_key.specs.Mutations.{row_change_of}
 use Rattle.cell_key.specs.declared.mutation.Mutation.{Mutation}
@@ -39,6 +39,11 @@ parts_are k s store e is =
     ∙ ap (λ l. memory_line (length k.view.memory) ++ frozen_line (option_map (λ z. length z) k.view.frozen) ++ l) (counted k.view.files)
     ∙ ap parts_text e
 
+-- what a store has, behind other text
+regroup : (x memory frozen files : List ℕ) → x ++ memory ++ frozen ++ files ≡ x ++ (memory ++ frozen ++ files)
+regroup x memory frozen files =
+    append_assoc (x ++ memory) frozen files ∙ append_assoc x memory (frozen ++ files) ∙ sym (ap (λ l. x ++ l) (append_assoc memory frozen files))
+
 -- the text of a run under a configuration, over these mutations and lines of these kinds
 pub live_text : (c d : Settings) (lines : List (List ℕ)) (shape : LiveShape) (run : LiveRun) (mutations : List Mutation) (kinds : List LineKind) (text : List ℕ)
     → d ≡ c → map row_change_of mutations ≡ mutations_of lines → kinds ≡ kinds_of lines
@@ -60,6 +65,8 @@ live_text c d lines shape run mutations kinds text config changes are answers wa
       scanned = subst (λ x. AreNumberedWalks x (log_with_all (rules_of x) [] (mutations_of lines)) (length (log_with_all (rules_of x) [] (take shape.chunk (mutations_of lines)))) shape.batch 1 walked) config
           (subst (λ ms. AreNumberedWalks d (log_with_all (rules_of d) [] ms) (length (log_with_all (rules_of d) [] (take shape.chunk ms))) shape.batch 1 walked) changes walks);
       whole = whole
+          ∙ regroup (lines_text kinds (map model_answer_of run.answers) ++ log_line run.status.log ++ numbered_text scanner_text 1 walked ++ numbered_text final_text 1 walked)
+          (memory_line run.status.memory) (frozen_line run.status.frozen) (count_lines run.status.files)
           ∙ (λ i. lines_text (are i) (answers i) ++ log_line (log i) ++ numbered_text scanner_text 1 walked ++ numbered_text final_text 1 walked ++ parts i)
           ∙ (λ i. lines_text (kinds_of lines) (map (λ a. Some a) (answers_to (rules_of (config i)) [] (changes i))) ++ log_line (length (log_with_all (rules_of (config i)) [] (changes i)))
           ++ numbered_text scanner_text 1 walked ++ numbered_text final_text 1 walked ++ parts_text (after_plan (rules_of (config i)) shape.chunk (changes i)).store);
