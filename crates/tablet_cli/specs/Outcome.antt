@@ -85,7 +85,7 @@ refuses Upgrade bytes = is_no_image bytes
 
 -- how a command ends that refuses its input, or doesn't
 abbrev pub end_of : Reply → Bool → Status
-end_of reply false = Done
+end_of _ false = Done
 end_of Replay true = BadConfig
 end_of Pack true = BadConfig
 end_of Show true = BadImage
